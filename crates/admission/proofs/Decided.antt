@@ -10,7 +10,7 @@ use borrow.Author.Tests.{leb-false, le-leb, lt-leb}
 use Rattle.terms.specs.Measures.{most_scans, most_transactions}
 use Rattle.terms.specs.declared.ScanEntry.{ScanEntry}
 use Rattle.terms.specs.declared.Refusal.{Refusal}
-use Rattle.loops.specs.declared.Found.{Found}
+use Rattle.std.specs.Prelude.{Option, Some, None}
 use Rattle.layout.specs.declared.Sizes.{Sizes}
 use Rattle.layout.specs.View.{View, rows_given}
 use Rattle.history.specs.History.{Test, ◌when◌, Verdict, accept, refuse, verdict, no_column, no_range, range_of}
@@ -23,7 +23,8 @@ use Rattle.rows.specs.Finders.{Inside}
 use Rattle.rows.proofs.Cases.{found_at, found_nothing}
 use Rattle.conditions.specs.Opens.{open_at}
 use Rattle.conditions.proofs.Opens.{open_there, not_open}
-use Rattle.admission.specs.declared.Tested.{Tested}
+use Rattle.std.specs.Prelude.{Result, Ok, Err}
+use Rattle.terms.specs.declared.Refusal.{Refusal}
 use Rattle.admission.specs.Given.{range_given, ScanAt}
 use Rattle.admission.specs.Tested.{Says}
 use Rattle.admission.proofs.Scans.{scan_lacks, scan_open, in_table, found_scan}
@@ -38,7 +39,7 @@ module _ (x : Refusal) (b : Bool) (ts : List Test) where
   unfolding verdict
   first_passes w e h = rw e h
 
-  pub first_hands_on : (d : Tested) → b ≡ false → Says d (verdict ts) → Says d (verdict (x when b ∷ ts))
+  pub first_hands_on : (d : Result ℕ Refusal) → b ≡ false → Says d (verdict ts) → Says d (verdict (x when b ∷ ts))
   unfolding verdict
   first_hands_on d e h = rw e h
 
@@ -47,11 +48,11 @@ unfolding verdict
 none_fails = refl
 
 -- what other tests said, which this function handed on
-module _ (d : Tested) (w : Verdict) where
-  pub said_refuse : (x : Refusal) → d ≡ Tested.Failed x → Says d w → w ≡ refuse x
+module _ (d : Result ℕ Refusal) (w : Verdict) where
+  pub said_refuse : (x : Refusal) → d ≡ Err x → Says d w → w ≡ refuse x
   said_refuse x e h = rw e at h
 
-  pub said_accept : (j : ℕ) → d ≡ Tested.Passed j → Says d w → w ≡ accept
+  pub said_accept : (j : ℕ) → d ≡ Ok j → Says d w → w ≡ accept
   said_accept j e h = rw e at h
 
 -- ---- what a condition is, by the flag that a function answered and a branch took
@@ -70,12 +71,12 @@ module _ (n a k : ℕ) (e : n ≡ a) where
   under_limit h = rw e at h
 
 -- ---- the row
-module _ (v : View) (r : ℕ) (f : Found) (e : f ≡ range_given v r) where
-  pub row_lacks : f ≡ Found.Nothing → not_given_in v r ≡ true
+module _ (v : View) (r : ℕ) (f : Option ℕ) (e : f ≡ range_given v r) where
+  pub row_lacks : f ≡ None → not_given_in v r ≡ true
   unfolding range_given
   row_lacks q = found_nothing (not_given_in v r) (range_of r) (sym e ∙ q)
 
-  module _ (g : ℕ) (q : f ≡ Found.At g) where
+  module _ (g : ℕ) (q : f ≡ Some g) where
     there : (not_given_in v r ≡ false) × (g ≡ range_of r)
     unfolding range_given
     there = found_at (not_given_in v r) (range_of r) g (sym e ∙ q)
@@ -100,11 +101,11 @@ unfolding no_range
 range_below s g b e f = leb-false s.ranges g (sym e ∙ f)
 
 -- ---- the open transaction
-module _ (v : View) (t : ℕ) (f : Found) (e : f ≡ open_at v t) where
-  pub open_lacks : f ≡ Found.Nothing → not_open_in v t ≡ true
+module _ (v : View) (t : ℕ) (f : Option ℕ) (e : f ≡ open_at v t) where
+  pub open_lacks : f ≡ None → not_open_in v t ≡ true
   open_lacks q = not_open v t (sym e ∙ q)
 
-  module _ (j : ℕ) (q : f ≡ Found.At j) where
+  module _ (j : ℕ) (q : f ≡ Some j) where
     pub is_open : not_open_in v t ≡ false
     is_open = (open_there v t j (sym e ∙ q)).0
 
@@ -112,13 +113,13 @@ module _ (v : View) (t : ℕ) (f : Found) (e : f ≡ open_at v t) where
     open_at_lem h = record { low = rw q at h; found = (open_there v t j (sym e ∙ q)).1 }
 
 -- ---- the open scan
-module _ (t : Scans) (k : ℕ) (f : Found) (e : f ≡ find_in t k) where
-  pub scan_closed_lem : f ≡ Found.Nothing → (ps : List ScanEntry) → t ≡ table_of ps → open_count ps ≤ most_scans → no_scan_in ps k ≡ true
-  scan_closed_lem q ps same few = scan_lacks k ps few (in_table t ps same k Found.Nothing (sym e ∙ q))
+module _ (t : Scans) (k : ℕ) (f : Option ℕ) (e : f ≡ find_in t k) where
+  pub scan_closed_lem : f ≡ None → (ps : List ScanEntry) → t ≡ table_of ps → open_count ps ≤ most_scans → no_scan_in ps k ≡ true
+  scan_closed_lem q ps same few = scan_lacks k ps few (in_table t ps same k None (sym e ∙ q))
 
-  module _ (j : ℕ) (q : f ≡ Found.At j) where
+  module _ (j : ℕ) (q : f ≡ Some j) where
     pub is_running : (ps : List ScanEntry) → t ≡ table_of ps → open_count ps ≤ most_scans → no_scan_in ps k ≡ false
-    is_running ps same few = scan_open k ps few j (in_table t ps same k (Found.At j) (sym e ∙ q))
+    is_running ps same few = scan_open k ps few j (in_table t ps same k (Some j) (sym e ∙ q))
 
     pub scan_entry_lem : length t.numbers ≡ most_scans → ScanAt t k j
     scan_entry_lem n = found_scan t k j n (sym e ∙ q)

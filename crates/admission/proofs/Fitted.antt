@@ -21,8 +21,7 @@ use Rattle.facts.specs.Tests.{MemoryFacts, Passed}
 use Rattle.facts.proofs.Each.{each_tells}
 use Rattle.facts.proofs.Ready.{stored}
 use Rattle.facts.proofs.Usable.{usable_tells, link_tells, chunk_current_tells}
-use Rattle.pages.specs.declared.check.Checked.{Checked}
-use Rattle.pages.specs.declared.check.Checked.TheVariants.{Fit, Unfit}
+use Rattle.std.specs.Prelude.{Option, Some, None}
 use Rattle.pages.specs.Checked.{checked, Safe}
 use Rattle.model.specs.Stored.{page_in, chunks_of}
 use Rattle.model.specs.Preconditions.{shape_in, Linked, ChunksCurrent}
@@ -61,21 +60,21 @@ module _ (s : Sizes) (v : View) (proper : Proper s) (facts : MemoryFacts s v) wh
       }
 
 -- ---- what the test of memory and list found
-module _ (r : Checked) (m : List ℕ) where
-  pub not_usable : (ps : List ScanEntry) → r ≡ Unfit → r ≡ checked m ps → usable m ps ≡ false
+module _ (r : Option Sizes) (m : List ℕ) where
+  pub not_usable : (ps : List ScanEntry) → r ≡ None → r ≡ checked m ps → usable m ps ≡ false
   unfolding checked
   not_usable ps e f = go (usable m ps) (sym e ∙ f)
     where
-      go : (b : Bool) → Unfit ≡ cond b (Fit (stored_sizes (words m))) Unfit → b ≡ false
+      go : (b : Bool) → None ≡ cond b (Some (stored_sizes (words m))) None → b ≡ false
       go true q = let z : ◌≡◌ {A = ℕ} 0 1 = cc in absurd (omega arith)
       go false q = refl
 
-  module _ (s : Sizes) (e : r ≡ Fit s) where
+  module _ (s : Sizes) (e : r ≡ Some s) where
     pub list_known : (ps : List ScanEntry) → r ≡ checked m ps → PassedWith s m ps
     unfolding checked
     list_known ps f = go (usable m ps) refl (sym e ∙ f)
       where
-        go : (b : Bool) → usable m ps ≡ b → Fit s ≡ cond b (Fit (stored_sizes (words m))) Unfit → PassedWith s m ps
+        go : (b : Bool) → usable m ps ≡ b → Some s ≡ cond b (Some (stored_sizes (words m))) None → PassedWith s m ps
         go true u q = record { passed = u; sizes_are = cc; few = (usable_tells m ps u).facts.open_few }
         go false u q = let z : ◌≡◌ {A = ℕ} 0 1 = cc in absurd (omega arith)
 
@@ -97,6 +96,3 @@ module _ (r : Checked) (m : List ℕ) where
           transactions_to = k.transactions_to;
           scans_to = k.scans_to;
         }
-
-    pub need_few : Safe r m → need s < too_many_words
-    need_few h = (fit_tells h).small

@@ -10,12 +10,13 @@ use lib.ListN.{length, get_or, take, drop}
 use mir.Syntax.{w8}
 use mir.Val.{Fits}
 use lib.Seq.{length-take-le}
-use Rattle.terms.specs.Measures.{most_scans, most_transactions}
+use Rattle.terms.specs.Measures.{most_scans}
 use Rattle.terms.specs.declared.ScanEntry.{ScanEntry}
 use Rattle.terms.specs.declared.Form.{Form}
 use Rattle.history.specs.Forms.{form_use, uses_form, works_on}
 use Rattle.terms.specs.declared.Refusal.{Refusal}
-use Rattle.terms.specs.declared.Answer.{Answer}
+use Rattle.std.specs.Prelude.{Ok, Err}
+use Rattle.terms.specs.Answers.{Answer}
 use Rattle.words.specs.Words.{words}
 use Rattle.layout.specs.declared.Sizes.{Sizes}
 use Rattle.layout.specs.Sizes.{Proper}
@@ -27,10 +28,12 @@ use Rattle.scans.specs.Entries.{open_count}
 use Rattle.scans.specs.Table.{table_of}
 use Rattle.facts.specs.Usable.{stored_shape, stored_form, stored_sizes, usable}
 use Rattle.model.specs.Calls.{tests_in, reply_in, act_in, entries_after, say, view_if, view_next, entries_if, entries_next, stamps_next}
-use Rattle.model.specs.Preconditions.{shape_in, Linked, Pooled, OpenAt}
+use Rattle.model.specs.Preconditions.{shape_in, Linked, Pooled}
 use Rattle.promise.specs.Promise.{store_view, second_of, room_for, admits, second_after, Moves, MovesBy, answer_of, memory_after, list_after, stamps_left, Serves, ServesBy, Gives, GivesBy, kept, lend}
-use Rattle.admission.specs.declared.Admission.{Admission}
-use Rattle.admission.specs.declared.Tested.{Tested}
+use Rattle.std.specs.Prelude.{Result, Ok, Err}
+use Rattle.terms.specs.declared.Refusal.{Refusal}
+use Rattle.std.specs.Prelude.{Result, Ok, Err}
+use Rattle.terms.specs.declared.Refusal.{Refusal}
 use Rattle.admission.specs.Admitted.{Fitted, PassedWith, Admitted, Admits}
 use Rattle.admission.specs.Given.{ScanAt}
 use Rattle.admission.specs.Tested.{Finds, IfPassed, Tests, TestsBy}
@@ -41,9 +44,9 @@ FitBytes m = (k : ℕ) → Fits w8 (get_or m k 0)
 
 -- ---- what may be relied on once memory and list have passed the test
 
-pub admitted : (on : Form → Bool) (e : Admission) (s : Sizes) (n : ℕ) (m : List ℕ) (t : Scans) → e ≡ Admission.Fit s n → Admits on e m t → Admitted s n m t × (on s.form ≡ true)
+pub admitted : (on : Form → Bool) (s : Sizes) (n : ℕ) (m : List ℕ) (t : Scans) → Admits on (Ok (s, n)) m t → Admitted s n m t × (on s.form ≡ true)
 unfolding Admits
-admitted on e s n m t f h = rw f at h
+admitted on s n m t h = h
 
 -- the part that is lent is seen as the whole is, and as fitted
 module _ {s : Sizes} {n : ℕ} {m : List ℕ} {t : Scans} (e : Admitted s n m t) where
@@ -70,57 +73,45 @@ module _ {s : Sizes} {n : ℕ} {m : List ℕ} {t : Scans} (e : Admitted s n m t)
 
 -- ---- what the tests found, and what holds where they are passed
 
-pub found : (d : Tested) (P : ℕ → Type 0) (j : ℕ) → d ≡ Tested.Passed j → Finds d P → P j
+pub found : (P : ℕ → Type 0) (j : ℕ) → Finds (Ok j) P → P j
 unfolding Finds
-found d P j e h = rw e at h
+found P j h = h
 
-pub if_passed : (d : Tested) (A : Type 0) (j : ℕ) → d ≡ Tested.Passed j → IfPassed d A → A
+pub if_passed : (A : Type 0) (j : ℕ) → IfPassed (Ok j) A → A
 unfolding IfPassed
-if_passed d A j e h = rw e at h
+if_passed A j h = h
 
-pub index_is : (d : Tested) (j k : ℕ) → d ≡ Tested.Passed j → Finds d (λ i. i ≡ k) → j ≡ k
-index_is d j k = found d (λ i. i ≡ k) j
-
-pub index_below : (d : Tested) (j k : ℕ) → d ≡ Tested.Passed j → Finds d (λ i. i < k) → j < k
-index_below d j k = found d (λ i. i < k) j
-
-pub passed_below : (d : Tested) (j a k : ℕ) → d ≡ Tested.Passed j → IfPassed d (a < k) → a < k
-passed_below d j a k = if_passed d (a < k) j
-
-pub scan_below : (d : Tested) (t : Scans) (k j : ℕ) → d ≡ Tested.Passed j → Finds d (ScanAt t k) → j < most_scans
-scan_below d t k j e h = (found d (ScanAt t k) j e h).below
-
-pub open_below : (d : Tested) (v : View) (t j : ℕ) → d ≡ Tested.Passed j → Finds d (OpenAt v t) → j < most_transactions
-open_below d v t j e h = (found d (OpenAt v t) j e h).low
+pub scan_below : (t : Scans) (k j : ℕ) → Finds (Ok j) (ScanAt t k) → j < most_scans
+scan_below t k j h = (found (ScanAt t k) j h).below
 
 -- ---- the memory is not usable
 
 -- or in another form
-unadmitted : (e : Admission) (m : List ℕ) (t : Scans) (c : Call) → e ≡ Admission.Unfit → Admits (uses_form (form_use c)) e m t → (ps : List ScanEntry) → t ≡ table_of ps → admits (lend m ps) c ≡ false
+unadmitted : (m : List ℕ) (t : Scans) (c : Call) (x : Refusal) → Admits (uses_form (form_use c)) (Err x) m t
+    → (x ≡ Refusal.Memory) × ((ps : List ScanEntry) → t ≡ table_of ps → admits (lend m ps) c ≡ false)
 unfolding Admits admits
-unadmitted e m t c f h ps q = by_two (works_on c (stored_form (words m))) (room_for (form_use c) (stored_shape (words m)) (second_of c)) (usable m ps) ((rw f at h) ps q)
+unadmitted m t c x h = (h.0, λ ps q. by_two (works_on c (stored_form (words m))) (room_for (form_use c) (stored_shape (words m)) (second_of c)) (usable m ps) (h.1 ps q))
   where
     by_two : (a b u : Bool) → (a && u) ≡ false → (a && (b && u)) ≡ false
     by_two true true u e = e
     by_two true false u e = refl
     by_two false b u e = refl
 
-pub unfit_serves : (e : Admission) (m : List ℕ) (t : Scans) (c : Call) → e ≡ Admission.Unfit → Admits (uses_form (form_use c)) e m t
-    → ServesBy t m c (Answer.Refused Refusal.Memory) m kept
+pub unfit_serves : (m : List ℕ) (t : Scans) (c : Call) (x : Refusal) → Admits (uses_form (form_use c)) (Err x) m t → ServesBy t m c (Err x) m kept
 unfolding ServesBy Serves answer_of memory_after list_after
-unfit_serves e m t c f h = λ ps q. let u = unadmitted e m t c f h ps q in (rw u, rw u, rw u)
+unfit_serves m t c x h = λ ps q. let n = unadmitted m t c x h in let u = n.1 ps q in (rw (u, n.0), rw u, rw u)
 
 -- and a slice that was lent is as it was
-pub unfit_gives : (e : Admission) (m : List ℕ) (t : Scans) (c : Call) → e ≡ Admission.Unfit → Admits (uses_form (form_use c)) e m t
-    → GivesBy t m c (given (Answer.Refused Refusal.Memory) (lent_to (slice_of c))) m kept
+pub unfit_gives : (m : List ℕ) (t : Scans) (c : Call) (x : Refusal) → Admits (uses_form (form_use c)) (Err x) m t
+    → GivesBy t m c (given (Err x) (lent_to (slice_of c))) m kept
 unfolding GivesBy Gives ServesBy stamps_left
-unfit_gives e m t c f h = λ ps q. let u = unadmitted e m t c f h ps q in (unfit_serves e m t c f h ps q, rw u)
+unfit_gives m t c x h = λ ps q. let u = (unadmitted m t c x h).1 ps q in (unfit_serves m t c x h ps q, rw u)
 
 -- and so is a second memory
-pub unfit_moves : (e : Admission) (m : List ℕ) (t : Scans) (c : Call) → e ≡ Admission.Unfit → Admits (uses_form (form_use c)) e m t
-    → MovesBy t m c (Answer.Refused Refusal.Memory) (second_of c)
+pub unfit_moves : (m : List ℕ) (t : Scans) (c : Call) (x : Refusal) → Admits (uses_form (form_use c)) (Err x) m t
+    → MovesBy t m c (Err x) (second_of c)
 unfolding MovesBy Moves answer_of second_after
-unfit_moves e m t c f h = λ ps q. let u = unadmitted e m t c f h ps q in (rw u, rw u)
+unfit_moves m t c x h = λ ps q. let n = unadmitted m t c x h in let u = n.1 ps q in (rw (u, n.0), rw u)
 
 -- ---- it is, and the tests tell
 
@@ -136,19 +127,19 @@ list_kept accept ps ps' e = e
 list_kept (refuse n) ps ps' e = refl
 
 -- a call that does not look at the list has the same verdict by every list
-pub by_any : (s : Sizes) (m : List ℕ) (t : Scans) (c : Call) (d : Tested) → Tests s m c d → TestsBy t s m c d
+pub by_any : (s : Sizes) (m : List ℕ) (t : Scans) (c : Call) (d : Result ℕ Refusal) → Tests s m c d → TestsBy t s m c d
 unfolding Tests TestsBy
 by_any s m t c d h = λ ps q few. h ps
 
 -- all were passed
-pub all_passed : (s : Sizes) (m : List ℕ) (t : Scans) (c : Call) (d : Tested) (j : ℕ) → d ≡ Tested.Passed j → TestsBy t s m c d
+pub all_passed : (s : Sizes) (m : List ℕ) (t : Scans) (c : Call) (j : ℕ) → TestsBy t s m c (Ok j)
     → (ps : List ScanEntry) → t ≡ table_of ps → open_count ps ≤ most_scans → verdict (tests_in (shape_in s) (view_of s m) ps c) ≡ accept
 unfolding TestsBy
-all_passed s m t c d j g h = rw g at h
+all_passed s m t c j h = h
 
-module _ (on : Form → Bool) (e : Admission) (s : Sizes) (n : ℕ) (m : List ℕ) (t : Scans) (f : e ≡ Admission.Fit s n) (h : Admits on e m t) where
+module _ (on : Form → Bool) (s : Sizes) (n : ℕ) (m : List ℕ) (t : Scans) (h : Admits on (Ok (s, n)) m t) where
   facts : Admitted s n m t
-  facts = (admitted on e s n m t f h).0
+  facts = (admitted on s n m t h).0
 
   pub fitted : Fitted s m
   fitted = facts.fitted
@@ -181,9 +172,9 @@ module _ (on : Form → Bool) (e : Admission) (s : Sizes) (n : ℕ) (m : List �
   part_long = sym (length-take-le n m part_in)
 
 -- a call that works on the form, and is no move
-module _ (e : Admission) (s : Sizes) (n : ℕ) (m : List ℕ) (t : Scans) (f : e ≡ Admission.Fit s n) (c : Call) (h : Admits (uses_form (form_use c)) e m t) (one : room_for (form_use c) (shape_in s) (second_of c) ≡ true) where
+module _ (s : Sizes) (n : ℕ) (m : List ℕ) (t : Scans) (c : Call) (h : Admits (uses_form (form_use c)) (Ok (s, n)) m t) (one : room_for (form_use c) (shape_in s) (second_of c) ≡ true) where
   known : Admitted s n m t
-  known = (admitted (uses_form (form_use c)) e s n m t f h).0
+  known = (admitted (uses_form (form_use c)) s n m t h).0
 
   -- what the definitions give is what the call answers and leaves
   module _ (ps : List ScanEntry) (p : PassedWith s m ps) where
@@ -191,7 +182,7 @@ module _ (e : Admission) (s : Sizes) (n : ℕ) (m : List ℕ) (t : Scans) (f : e
     unfolding admits stored_sizes stored_shape
     admits_it =
         let z = p.sizes_are in
-        let w : works_on c (stored_form (words m)) ≡ true = ap (λ (x : Sizes). works_on c x.form) (sym z) ∙ (admitted (uses_form (form_use c)) e s n m t f h).1 in
+        let w : works_on c (stored_form (words m)) ≡ true = ap (λ (x : Sizes). works_on c x.form) (sym z) ∙ (admitted (uses_form (form_use c)) s n m t h).1 in
         let r : room_for (form_use c) (stored_shape (words m)) (second_of c) ≡ true = ap (λ (x : Sizes). room_for (form_use c) (shape_in x) (second_of c)) (sym z) ∙ one in
         rw (w, r, p.passed)
 
@@ -212,12 +203,12 @@ module _ (e : Admission) (s : Sizes) (n : ℕ) (m : List ℕ) (t : Scans) (f : e
     stamps_are = rw (admits_it, p.sizes_are)
 
   -- a test failed
-  pub failed_serves : (d : Tested) (x : Refusal) → d ≡ Tested.Failed x → TestsBy t s m c d → FitBytes m → ServesBy t m c (Answer.Refused x) m kept
+  pub failed_serves : (x : Refusal) → TestsBy t s m c (Err x) → FitBytes m → ServesBy t m c (Err x) m kept
   unfolding ServesBy Serves TestsBy say view_next view_if entries_next entries_if answer_if
-  failed_serves d x g k b = λ ps q.
+  failed_serves x k b = λ ps q.
       let l = known.listed ps q in
-      let w : verdict (tests_in (shape_in s) (view_of s m) ps c) ≡ refuse x = (rw g at k) ps q l.few in
-      let a : Answer.Refused x ≡ say (shape_in s) (view_of s m) ps c = rw w in
+      let w : verdict (tests_in (shape_in s) (view_of s m) ps c) ≡ refuse x = k ps q l.few in
+      let a : Err x ≡ say (shape_in s) (view_of s m) ps c = rw w in
       let v : view_of s m ≡ view_next (shape_in s) (view_of s m) ps c = rw w in
       let y : ps ≡ entries_next (shape_in s) (view_of s m) ps c = rw w in (
         a ∙ answer_is ps l,

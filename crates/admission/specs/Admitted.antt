@@ -13,7 +13,8 @@ use Rattle.scans.specs.Entries.{open_count}
 use Rattle.scans.specs.Table.{table_of}
 use Rattle.facts.specs.Usable.{stored_form, stored_sizes, usable}
 use Rattle.model.specs.Preconditions.{shape_in, Linked, Pooled, ChunksCurrent}
-use Rattle.admission.specs.declared.Admission.{Admission}
+use Rattle.std.specs.Prelude.{Result, Ok, Err}
+use Rattle.terms.specs.declared.Refusal.{Refusal}
 
 -- the memory m holds a store of sizes s in order
 pub record Fitted (s : Sizes) (m : List ℕ) : Type 0 where
@@ -40,9 +41,9 @@ pub record Admitted (s : Sizes) (n : ℕ) (m : List ℕ) (t : Scans) : Type 0 wh
   pub listed : (ps : List ScanEntry) → t ≡ table_of ps → PassedWith s m ps
 
 -- What the test of memory and list for calls that work on these forms found: they may work, or the memory is not usable or in another form.
-unfoldable pub Admits : (Form → Bool) → Admission → List ℕ → Scans → Type 0
-Admits on (Admission.Fit s n) m t = Admitted s n m t × (on s.form ≡ true)
-Admits on Admission.Unfit m t = (ps : List ScanEntry) → t ≡ table_of ps → (on (stored_form (words m)) && usable m ps) ≡ false
+unfoldable pub Admits : (Form → Bool) → Result (Sizes × ℕ) Refusal → List ℕ → Scans → Type 0
+Admits on (Ok fit) m t = Admitted fit.0 fit.1 m t × (on fit.0.form ≡ true)
+Admits on (Err why) m t = (why ≡ Refusal.Memory) × ((ps : List ScanEntry) → t ≡ table_of ps → (on (stored_form (words m)) && usable m ps) ≡ false)
 
 -- for calls on either form
 abbrev pub every_form : Form → Bool

@@ -10,27 +10,28 @@ use Rattle.scans.specs.Entries.{open_count}
 use Rattle.scans.specs.Table.{table_of}
 use Rattle.model.specs.Calls.{tests_in}
 use Rattle.model.specs.Preconditions.{shape_in}
-use Rattle.admission.specs.declared.Tested.{Tested}
+use Rattle.std.specs.Prelude.{Result, Ok, Err}
+use Rattle.terms.specs.declared.Refusal.{Refusal}
 
 -- the tests found what the verdict says
-abbrev pub Says : Tested → Verdict → Type 0
-Says (Tested.Passed j) w = w ≡ accept
-Says (Tested.Failed x) w = w ≡ refuse x
+abbrev pub Says : Result ℕ Refusal → Verdict → Type 0
+Says (Ok j) w = w ≡ accept
+Says (Err x) w = w ≡ refuse x
 
 -- what was found, if the tests are passed, is as P has it
-unfoldable pub Finds : Tested → (ℕ → Type 0) → Type 0
-Finds (Tested.Passed j) P = P j
-Finds (Tested.Failed x) P = Unit {0}
+unfoldable pub Finds : Result ℕ Refusal → (ℕ → Type 0) → Type 0
+Finds (Ok j) P = P j
+Finds (Err x) P = Unit {0}
 
 -- and then A holds
-unfoldable pub IfPassed : Tested → Type 0 → Type 0
-IfPassed (Tested.Passed j) A = A
-IfPassed (Tested.Failed x) A = Unit {0}
+unfoldable pub IfPassed : Result ℕ Refusal → Type 0 → Type 0
+IfPassed (Ok j) A = A
+IfPassed (Err x) A = Unit {0}
 
 -- the tests of call c on the memory m, whatever the scan list
-unfoldable pub Tests : Sizes → List ℕ → Call → Tested → Type 0
+unfoldable pub Tests : Sizes → List ℕ → Call → Result ℕ Refusal → Type 0
 Tests s m c r = (ps : List ScanEntry) → Says r (verdict (tests_in (shape_in s) (view_of s m) ps c))
 
 -- and by every scan list that a table stands for, and that a usable store may have
-unfoldable pub TestsBy : Scans → Sizes → List ℕ → Call → Tested → Type 0
+unfoldable pub TestsBy : Scans → Sizes → List ℕ → Call → Result ℕ Refusal → Type 0
 TestsBy t s m c r = (ps : List ScanEntry) → t ≡ table_of ps → open_count ps ≤ most_scans → Says r (verdict (tests_in (shape_in s) (view_of s m) ps c))

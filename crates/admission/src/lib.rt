@@ -13,68 +13,32 @@ ghost use Rattle.admission.specs.Admitted.{Admits, every_form};
 ghost use Rattle.admission.specs.Given.{range_given};
 
 use layout::{HEADER_ROWS, HEADER_STAMP, Region, Sizes, words_needed};
-use loops::{Found, either};
+use loops::either;
 use model::Reader;
-use pages::check::{Checked, check};
+use pages::check::check;
 use regions::read;
 use rows::range_of;
 use scans::Scans;
 use terms::{Form, Refusal, Row, Stamp, Transaction};
 use words::HIGHEST_WORD;
 
-// What the test of the lent memory and scan list finds: the store's sizes and the number of bytes that they need, or that the memory is not usable.
-#[derive(Clone, Copy)]
-pub enum Admission {
-    Fit(Sizes, usize),
-    Unfit,
-}
-
-// What the tests of a call find: the index that it goes by (of a transaction, a scan in the table, a free entry, a free page, a range), or why the call is refused.
-#[derive(Clone, Copy)]
-pub enum Tested {
-    Passed(usize),
-    Failed(Refusal),
-}
-
-// The test of a memory and of the scan list that a table stands for.
-pub fn admit(mem: &[u8], t: Scans) -> Admission
+// The test of a memory and of the scan list that a table stands for: the store's sizes, and the number of bytes that they need.
+pub fn admit(mem: &[u8], t: Scans) -> Result<(Sizes, usize), Refusal>
     ensures { Admits every_form result mem.now t }
 {
-    let Checked::Fit(s) = check(mem, t) else {
-        return Admission::Unfit;
-    };
-    Admission::Fit(s, words_needed(s) * 4)
-}
-
-// Whether two forms are one.
-fn same_form(a: Form, b: Form) -> bool
-    ensures { result ≡ is_form a b }
-{
-    match a {
-        Form::First => match b {
-            Form::First => true,
-            Form::Newest => false,
-        },
-        Form::Newest => match b {
-            Form::First => false,
-            Form::Newest => true,
-        },
-    }
+    let s = check(mem, t).ok_or(Refusal::Memory)?;
+    Ok((s, words_needed(s) * 4))
 }
 
 // The same test, for calls that work on one form alone.
-pub fn admit_in(mem: &[u8], t: Scans, form: Form) -> Admission
+pub fn admit_in(mem: &[u8], t: Scans, form: Form) -> Result<(Sizes, usize), Refusal>
     ensures { Admits (is_form form) result mem.now t }
 {
-    let Admission::Fit(s, n) = admit(mem, t) else {
-        return Admission::Unfit;
-    };
-    let stored = s.form;
-    if same_form(form, stored) {
-        Admission::Fit(s, n)
-    } else {
-        Admission::Unfit
+    let (s, n) = admit(mem, t)?;
+    if s.form != form {
+        return Err(Refusal::Memory);
     }
+    Ok((s, n))
 }
 
 // The reader of all commits at a stamp or before, with the changes of a transaction (0: of none). No ordinal is above the highest word.
@@ -97,17 +61,19 @@ pub fn latest_reader(mem: &[u8], s: Sizes, me: Transaction) -> Reader
 }
 
 // The range of a row, or nothing where the row's number is not yet given: 5.
-pub fn given_range(mem: &[u8], s: Sizes, row: Row) -> Found
+#[tactic(auto, unfolding(crate::specs::Given::range_given, model::specs::Calls::not_given_in))]
+pub fn given_range(mem: &[u8], s: Sizes, row: Row) -> Option<usize>
     requires { Suffices s mem.now }
     ensures { result ≡ range_given (view_of s mem.now) row.0 }
 {
     if read(mem, s, Region::Header, HEADER_ROWS) <= row.0 {
-        return Found::Nothing;
+        return None;
     }
-    Found::At(range_of(row))
+    Some(range_of(row))
 }
 
 // 6: not below the column count.
+#[tactic(auto, unfolding(history::specs::History::no_column))]
 pub fn no_column(s: Sizes, column: u32) -> bool
     ensures { result ≡ no_column (shape_in s) column }
 {
@@ -115,6 +81,7 @@ pub fn no_column(s: Sizes, column: u32) -> bool
 }
 
 // 7: not below the range count.
+#[tactic(auto, unfolding(history::specs::History::no_range))]
 pub fn no_range(s: Sizes, range: u32) -> bool
     ensures { result ≡ no_range (shape_in s) range }
 {
@@ -122,6 +89,7 @@ pub fn no_range(s: Sizes, range: u32) -> bool
 }
 
 // 13, for a commit: earlier than the last.
+#[tactic(auto, unfolding(model::specs::Calls::earlier_in))]
 pub fn earlier(mem: &[u8], s: Sizes, stamp: Stamp) -> bool
     requires { Suffices s mem.now }
     ensures { result ≡ earlier_in (view_of s mem.now) stamp.0 }
@@ -130,6 +98,7 @@ pub fn earlier(mem: &[u8], s: Sizes, stamp: Stamp) -> bool
 }
 
 // 13, for two stamps: the first after the second, or the second later than the last commit.
+#[tactic(auto, unfolding(model::specs::Calls::no_span_in))]
 pub fn no_span(mem: &[u8], s: Sizes, from: Stamp, to: Stamp) -> bool
     requires { Suffices s mem.now }
     ensures { result ≡ no_span_in (view_of s mem.now) from.0 to.0 }
@@ -139,6 +108,7 @@ pub fn no_span(mem: &[u8], s: Sizes, from: Stamp, to: Stamp) -> bool
 }
 
 // 13, for a read or a scan: later than the last commit.
+#[tactic(auto, unfolding(model::specs::Calls::later_in))]
 pub fn later(mem: &[u8], s: Sizes, stamp: Stamp) -> bool
     requires { Suffices s mem.now }
     ensures { result ≡ later_in (view_of s mem.now) stamp.0 }

@@ -8,9 +8,12 @@ use native.Mathlib.Omega.{arith}
 use lib.Dec.{T, leb}
 use lib.ListN.{length, get_or-map}
 use Rattle.model.specs.Writing.{made_view}
-use Rattle.terms.specs.Measures.{Shape, within_limits, most_scans}
+use Rattle.terms.specs.Measures.{within_limits, most_scans}
+use Rattle.terms.specs.declared.Shape.{Shape}
 use Rattle.terms.specs.Refusals.{is_refused, is_accepted}
-use Rattle.terms.specs.declared.Answer.{Answer}
+use Rattle.std.specs.Prelude.{Ok, Err}
+use Rattle.terms.specs.Answers.{Answer}
+use Rattle.terms.specs.declared.Fields.{Fields}
 use Rattle.terms.specs.declared.ScanEntry.{ScanEntry}
 use Rattle.terms.specs.declared.Refusal.{Refusal}
 use Rattle.terms.specs.declared.Form.{Form}
@@ -72,7 +75,7 @@ moved_left : (m : List ℕ) (ps : List ScanEntry) (to : Form) (second : List ℕ
 unfolding Moves
 moved_left m ps to second r second' s a = (alone_is m ps to second r s.0, rw (← s.0, a) s.1, sym (move_list m ps to second))
 
-unmoved_left : (m : List ℕ) (ps : List ScanEntry) (to : Form) (second : List ℕ) (r : Answer) (second' : List ℕ) (n : Refusal) → Moves m ps (move to second) r second' → r ≡ Answer.Refused n
+unmoved_left : (m : List ℕ) (ps : List ScanEntry) (to : Form) (second : List ℕ) (r : Answer) (second' : List ℕ) (n : Refusal) → Moves m ps (move to second) r second' → r ≡ Err n
     → (alone r ≡ outcome_of (lend m ps) (move to second)) × (m ≡ (left_by (lend m ps) (move to second)).memory) × (ps ≡ (left_by (lend m ps) (move to second)).list)
 unfolding Moves
 unmoved_left m ps to second r second' n s a = (alone_is m ps to second r s.0, rw (← s.0, a), sym (move_list m ps to second))
@@ -109,15 +112,15 @@ store_left_lem X S m₀ ps₀ e f q = rw (e, f) at (run_left q)
 
 -- ---- a making answers done, or a refusal that leaves all as it was
 answered : List ℕ → Bool → Bool → List ℕ → Answer × List ℕ
-answered m a b l = cond a (cond b (Answer.Done, l) (Answer.Refused Refusal.Memory, m)) (Answer.Refused Refusal.Shape, m)
+answered m a b l = cond a (cond b (Ok Fields.Done, l) (Err Refusal.Memory, m)) (Err Refusal.Shape, m)
 
-unmade_same : (m : List ℕ) (a b : Bool) (l : List ℕ) (n : Refusal) → (answered m a b l).0 ≡ Answer.Refused n → (answered m a b l).1 ≡ m
+unmade_same : (m : List ℕ) (a b : Bool) (l : List ℕ) (n : Refusal) → (answered m a b l).0 ≡ Err n → (answered m a b l).1 ≡ m
 unfolding answered
 unmade_same m true true l n e = clash (cc)
 unmade_same m true false l n e = refl
 unmade_same m false b l n e = refl
 
-made_done : (m : List ℕ) (a b : Bool) (l : List ℕ) → is_refused (answered m a b l).0 ≡ false → (answered m a b l).0 ≡ Answer.Done
+made_done : (m : List ℕ) (a b : Bool) (l : List ℕ) → is_refused (answered m a b l).0 ≡ false → (answered m a b l).0 ≡ Ok Fields.Done
 unfolding answered
 made_done m true true l e = refl
 made_done m true false l e = clash (cc)
@@ -128,7 +131,7 @@ pub record Faithful (F : Interface) : Type 0 where
   pub served : {m m' : List ℕ} {ps ps' : List ScanEntry} {c : Call} {o : Outcome F.Returned} → F.gives m ps c o m' ps' → (a : Answer) × Gives m ps c (given a o.stamps) m' ps' × (o.answer ≡ F.returns a)
   pub moving : {m second second' : List ℕ} {ps : List ScanEntry} {to : Form} {r : F.Returned} → F.moves m ps to second r second' → (a : Answer) × Moves m ps (move to second) a second' × (r ≡ F.returns a)
   pub making : {m m' : List ℕ} {ps ps' : List ScanEntry} {S : Shape} {r : F.Returned} → F.makes m ps S r m' ps' → (a : Answer) × Makes m ps S a m' ps' × (r ≡ F.returns a)
-  pub refusing : (a : Answer) (n : Refusal) → F.Refuses (F.returns a) n ↔ (a ≡ Answer.Refused n)
+  pub refusing : (a : Answer) (n : Refusal) → F.Refuses (F.returns a) n ↔ (a ≡ Err n)
   pub accepting : (a : Answer) → F.Accepts (F.returns a) ↔ (is_refused a ≡ false)
 
 plain_map : {A R : Type 0} (f : A → R) (cs : List Call) (l : List A) → plain_outcomes cs (map f l) ≡ map f (plain_outcomes cs l)
@@ -141,7 +144,7 @@ plain_map f (c ∷ cs) (a ∷ l) =
     [ true ↦ refl | false ↦ refl ])
 
 module _ (F : Interface) (ok : Faithful F) where
-  is_refusal : (r : F.Returned) (a : Answer) (n : Refusal) → r ≡ F.returns a → F.Refuses r n → a ≡ Answer.Refused n
+  is_refusal : (r : F.Returned) (a : Answer) (n : Refusal) → r ≡ F.returns a → F.Refuses r n → a ≡ Err n
   is_refusal r a n e h = (ok.refusing a n).0 (subst (λ (x : F.Returned). F.Refuses x n) e h)
 
   not_refused : (r : F.Returned) (a : Answer) → r ≡ F.returns a → F.Accepts r → is_refused a ≡ false
@@ -179,7 +182,7 @@ module _ (F : Interface) (ok : Faithful F) where
   unfolding Makes made answered MakingFrees
   from (by_making {S = S} {m₀ = m₀} {m = m} {ps₀ = ps₀} {ps = ps} {z = z} h g) =
       let x = ok.making h in
-      let done : (made Form.Newest S (length ps₀) m₀).0 ≡ Answer.Done =
+      let done : (made Form.Newest S (length ps₀) m₀).0 ≡ (Ok Fields.Done) =
       made_done m₀ (within_limits S) (leb (bytes_needed Form.Newest S) (length m₀) && leb most_scans (length ps₀)) (lay (sizes_of Form.Newest S) (made_view Form.Newest S) m₀) (ap is_refused (sym x.1.0) ∙ not_refused z x.0 x.2 g) in
       record { m₀ = m₀; ps₀ = ps₀; accepted = done; memory = x.1.1; list = making_frees S m₀ m ps₀ ps (sym done, x.1.1, x.1.2) }
   from (of_first m₀ ps₀ a) = record { m₀ = m₀; ps₀ = ps₀; accepted = a; memory = refl; list = refl }
@@ -215,7 +218,7 @@ module _ (F : Interface) (ok : Faithful F) where
   unfolding UnmadeKept Makes made answered
   unmade_kept S m m' ps ps' r n s h =
       let x = ok.making s in
-      let e : (made Form.Newest S (length ps) m).0 ≡ Answer.Refused n = sym x.1.0 ∙ is_refusal r x.0 n x.2 h in
+      let e : (made Form.Newest S (length ps) m).0 ≡ Err n = sym x.1.0 ∙ is_refusal r x.0 n x.2 h in
       (x.1.1 ∙ unmade_same m (within_limits S) (leb (bytes_needed Form.Newest S) (length m) && leb most_scans (length ps)) (lay (sizes_of Form.Newest S) (made_view Form.Newest S) m) n e, x.1.2 ∙ ap (λ (y : Answer). freed_if (is_accepted y) ps) e)
 
   -- ---- what is changed
@@ -289,7 +292,7 @@ module _ (F : Interface) (ok : Faithful F) where
   module _ {X : Form} {S : Shape} {m m' : List ℕ} {ps ps' : List ScanEntry} {cs : List Call} {os : List (Outcome F.Returned)} (f : From X S m ps) (q : Run F m ps cs os m' ps') where
     at : (k : ℕ) → returned_at F os k ≡ returned_for F (store_outcome_at X S f.m₀ f.ps₀ cs k)
     unfolding store_outcome_at
-    at k = ap (λ (u : List (Outcome F.Returned)). returned_at F u k) (stored f q).0 ∙ get_or-map (returned_for F) (store_outcomes X S f.m₀ f.ps₀ cs) k (alone Answer.Done)
+    at k = ap (λ (u : List (Outcome F.Returned)). returned_at F u k) (stored f q).0 ∙ get_or-map (returned_for F) (store_outcomes X S f.m₀ f.ps₀ cs) k (alone (Ok Fields.Done))
 
     accepts_in : (k : ℕ) (x : Call) → AcceptsAmong F cs os k x → AcceptsIn X S f.m₀ f.ps₀ cs k x
     accepts_in k x u =

@@ -1,9 +1,12 @@
 -- The demands of the lent memory and list themselves: what follows from promises alone, whatever program made the calls. They are said once, of any
 -- interface that returns the answer (`Interface`): the calls return it as it is, and the exports as a reply (crates/deskrook/specs/Runs.antt). proofs/Runs.antt proves them.
 use Rattle.std.specs.Prelude.{ℕ, ◌≤◌, ◌<◌, ◌≡◌, ◌↔◌, false, T, List, [], ◌∷◌, map, length, get_or}
-use Rattle.terms.specs.Measures.{Shape, most_scans}
+use Rattle.terms.specs.Measures.{most_scans}
+use Rattle.terms.specs.declared.Shape.{Shape}
 use Rattle.terms.specs.Refusals.{is_refused}
-use Rattle.terms.specs.declared.Answer.{Answer}
+use Rattle.std.specs.Prelude.{Ok, Err}
+use Rattle.terms.specs.Answers.{Answer}
+use Rattle.terms.specs.declared.Fields.{Fields}
 use Rattle.terms.specs.declared.ScanEntry.{ScanEntry}
 use Rattle.terms.specs.declared.Refusal.{Refusal}
 use Rattle.terms.specs.declared.Form.{Form}
@@ -126,7 +129,7 @@ module _ (F : Interface) where
 
   -- the outcome of call i of a run; and that it is x, and is not refused
   abbrev pub returned_at : List (Outcome F.Returned) → ℕ → Outcome F.Returned
-  returned_at os i = get_or os i (alone (F.returns Answer.Done))
+  returned_at os i = get_or os i (alone (F.returns (Ok Fields.Done)))
 
   abbrev pub AcceptsAmong : List Call → List (Outcome F.Returned) → ℕ → Call → Type 0
   AcceptsAmong cs os i x = (i < length cs) × (call_at cs i ≡ x) × F.Accepts (returned_at os i).answer
@@ -144,7 +147,7 @@ module _ (F : Interface) where
 
 -- ---- of the calls
 abbrev pub calls : Interface
-calls = record { Returned = Answer; returns = λ a. a; Refuses = λ r n. r ≡ Answer.Refused n; Accepts = λ r. is_refused r ≡ false; gives = Gives; moves = λ m ps to second r second'. Moves m ps (move to second) r second'; makes = Makes }
+calls = record { Returned = Answer; returns = λ a. a; Refuses = λ r n. r ≡ Err n; Accepts = λ r. is_refused r ≡ false; gives = Gives; moves = λ m ps to second r second'. Moves m ps (move to second) r second'; makes = Makes }
 
 abbrev pub LentRefused : Type 0
 LentRefused = RefusedSo calls
@@ -194,9 +197,9 @@ LentScans = ScansSo calls
 -- ---- the list
 -- an accepted making frees every entry
 unfoldable pub MakingFrees : Type 0
-MakingFrees = (S : Shape) (m m' : List ℕ) (ps ps' : List ScanEntry) → Makes m ps S Answer.Done m' ps' → ps' ≡ all_freed ps
+MakingFrees = (S : Shape) (m m' : List ℕ) (ps ps' : List ScanEntry) → Makes m ps S (Ok Fields.Done) m' ps' → ps' ≡ all_freed ps
 
 -- a list of fewer than `most_scans` entries is refused with 2, whatever the memory
 unfoldable pub ShortRefused : Type 0
 ShortRefused =
-    (m m' : List ℕ) (ps ps' : List ScanEntry) (c : Call) (r : Answer) → length ps < most_scans → Serves m ps c r m' ps' → r ≡ Answer.Refused Refusal.Memory
+    (m m' : List ℕ) (ps ps' : List ScanEntry) (c : Call) (r : Answer) → length ps < most_scans → Serves m ps c r m' ps' → r ≡ Err Refusal.Memory

@@ -5,8 +5,7 @@
 
 mod laws;
 
-ghost use Rattle.std.specs.Prelude.{◌<◌, ◌≡◌, pos, get_or};
-ghost use Rattle.terms.specs.Measures.{most_columns};
+ghost use Rattle.std.specs.Prelude.{◌≡◌};
 ghost use Rattle.layout.specs.Sizes.{shape_of, BytesAnswered};
 ghost use Rattle.terms.specs.declared.Form.{Form};
 ghost use Rattle.history.specs.History.{Call, given};
@@ -14,31 +13,20 @@ ghost use Rattle.promise.specs.Promise.{Serves, ServesBy, kept, Gives, Moves, Ma
 ghost use Rattle.calls.specs.Values.{padded};
 
 use laws::{changed, changed_reading, listed, moved, served, served_reading};
-use lent::{free_made, len_of};
+use lent::free_made;
 use scans::Scans;
 use terms::limits::MOST_COLUMNS;
-use terms::{Answer, Row, ScanEntry, Stamp, Tail, Transaction};
+use terms::{Answer, Row, ScanEntry, Shape, Stamp, Tail, Transaction};
 
 // ---- the values lent with a call
-
-// Value i of those lent, 0 where there are fewer.
-fn value_at(values: &[i32], i: usize) -> i32
-    requires { i < most_columns }
-    ensures { result ≡ get_or (padded values.now) i (pos 0) }
-{
-    if i < values.len() { values[i] } else { 0 }
-}
 
 // The 16 values that a call takes of those lent.
 pub fn pad_values(values: &[i32]) -> [i32; MOST_COLUMNS]
     ensures { result ≡ padded values.now }
 {
     let mut taken = [0; MOST_COLUMNS];
-    let mut i = 0;
-    while i < MOST_COLUMNS {
-        taken[i] = value_at(values, i);
-        i += 1;
-    }
+    let n = values.len().min(MOST_COLUMNS);
+    taken[..n].copy_from_slice(&values[..n]);
     taken
 }
 
@@ -46,8 +34,7 @@ pub fn pad_values(values: &[i32]) -> [i32; MOST_COLUMNS]
 fn insert_values(mem: &mut [u8], t: Scans, transaction: Transaction, values: &[i32]) -> Answer
     ensures { ServesBy t mem.old (Call.insert transaction.0 (padded values.now)) result mem.new kept }
 {
-    let taken = pad_values(values);
-    changes::insert(mem, t, transaction, taken)
+    changes::insert(mem, t, transaction, pad_values(values))
 }
 
 fn update_values(
@@ -60,8 +47,7 @@ fn update_values(
 ) -> Answer
     ensures { ServesBy t mem.old (Call.update transaction.0 row.0 mask (padded values.now)) result mem.new kept }
 {
-    let taken = pad_values(values);
-    changes::update(mem, t, transaction, row, mask, taken)
+    changes::update(mem, t, transaction, row, mask, pad_values(values))
 }
 
 // A begin over the table, with the keeper as a word: a function of its own for the same reason.
@@ -77,7 +63,12 @@ fn begin_with_keeper(mem: &mut [u8], t: Scans, keeper: u16) -> Answer
 pub fn bytes_needed(columns: u32, ranges: u32, capacity: u32, spares: u32) -> Answer
     ensures { BytesAnswered (shape_of columns ranges capacity spares) result }
 {
-    layout::bytes_needed(columns, ranges, capacity, spares)
+    layout::bytes_needed(Shape {
+        columns,
+        ranges,
+        capacity,
+        spares,
+    })
 }
 
 // A store of a shape is made in the memory, and every entry of the list is free.
@@ -91,8 +82,13 @@ pub fn make(
 ) -> Answer
     ensures { Makes mem.old scans.old (shape_of columns ranges capacity spares) result mem.new scans.new }
 {
-    let n = len_of(scans);
-    let answer = making::make(mem, n, columns, ranges, capacity, spares);
+    let shape = Shape {
+        columns,
+        ranges,
+        capacity,
+        spares,
+    };
+    let answer = making::make(mem, scans.len(), shape);
     free_made(scans, answer)
 }
 

@@ -9,7 +9,7 @@ use lib.ListN.{length, take}
 use borrow.Author.Tests.{ltb-true, ltb-false, le-leb, lt-leb, lt-ltb}
 use Rattle.terms.specs.declared.Form.{Form}
 use Rattle.terms.specs.Measures.{range_rows, most_transactions, most_numbers}
-use Rattle.loops.specs.declared.Found.{Found}
+use Rattle.std.specs.Prelude.{Option, Some, None}
 use Rattle.layout.specs.declared.Sizes.{Sizes}
 use Rattle.words.specs.Words.{words}
 use Rattle.words.proofs.Words.{length_words}
@@ -26,8 +26,10 @@ use Rattle.model.specs.Preconditions.{shape_in, Counted, Linked, FreeAt, OpenAt}
 use Rattle.loops.specs.Search.{found_at}
 use Rattle.writing.specs.Steps.{Room}
 use Rattle.rows.proofs.Indices.{row_in_lem}
-use Rattle.admission.specs.declared.Admission.{Admission}
-use Rattle.admission.specs.declared.Tested.{Tested}
+use Rattle.std.specs.Prelude.{Result, Ok}
+use Rattle.terms.specs.declared.Refusal.{Refusal}
+use Rattle.std.specs.Prelude.{Result, Ok}
+use Rattle.terms.specs.declared.Refusal.{Refusal}
 use Rattle.admission.specs.Admitted.{Fitted, Admits}
 use Rattle.admission.specs.Tested.{Says, Finds, IfPassed, Tests}
 use Rattle.admission.proofs.Served.{admitted, part_seen, found, if_passed}
@@ -48,12 +50,9 @@ module _ (s : Sizes) (v : View) (r g n : ℕ) (b : Bool) (e : g ≡ range_of r) 
       }
 
 -- as many as an update wants
-module _ (d : Tested) (s : Sizes) (v : View) (t r n k : ℕ) (e : n ≡ k) where
+module _ (d : Result ℕ Refusal) (s : Sizes) (v : View) (t r n k : ℕ) (e : n ≡ k) where
   pub wanted_says : Says d (verdict (append_tests (shape_in s) v t r n)) → Says d (verdict (append_tests (shape_in s) v t r k))
   wanted_says h = rw e at h
-
-  pub wanted_left : IfPassed d (Room s v r n) → IfPassed d (Room s v r k)
-  wanted_left h = rw e at h
 
 -- ---- a row that is given is there, and its range is one of the store's
 module _ (s : Sizes) (m : List ℕ) (r : ℕ) (w : Fitted s m) (h : r < rows_given (view_of s m)) where
@@ -96,63 +95,63 @@ module _ (s : Sizes) (m : List ℕ) (h : Suffices s m) where
   any_free : any free opens ≡ ltb (first_index free opens) most_transactions
   any_free = any_first free opens ∙ ap (ltb (first_index free opens)) (opens_long s m h)
 
-  no_free : found_at most_transactions (first_index free opens) ≡ Found.Nothing → not (any free opens) ≡ true
+  no_free : found_at most_transactions (first_index free opens) ≡ None → not (any free opens) ≡ true
   no_free e = rw any_free (go (ltb (first_index free opens) most_transactions) e)
     where
-      go : (b : Bool) → cond b (Found.At (first_index free opens)) Found.Nothing ≡ Found.Nothing → not b ≡ true
+      go : (b : Bool) → cond b (Some (first_index free opens)) None ≡ None → not b ≡ true
       go true q = let z : ◌≡◌ {A = ℕ} 0 1 = cc in absurd (omega arith)
       go false q = refl
 
-  first_free_lem : (j : ℕ) → found_at most_transactions (first_index free opens) ≡ Found.At j → (not (any free opens) ≡ false) × FreeAt (view_of s m) j
+  first_free_lem : (j : ℕ) → found_at most_transactions (first_index free opens) ≡ Some j → (not (any free opens) ≡ false) × FreeAt (view_of s m) j
   first_free_lem j e = rw any_free (go (ltb (first_index free opens) most_transactions) refl e)
     where
       go : (b : Bool) → ltb (first_index free opens) most_transactions ≡ b
-          → cond b (Found.At (first_index free opens)) Found.Nothing ≡ Found.At j → (not b ≡ false) × FreeAt (view_of s m) j
+          → cond b (Some (first_index free opens)) None ≡ Some j → (not b ≡ false) × FreeAt (view_of s m) j
       go true q f =
           let w : first_index free opens ≡ j = cc in
           (refl, record { low = omega (arith, ltb-true (first_index free opens) most_transactions q); first = sym w })
       go false q f = let z : ◌≡◌ {A = ℕ} 0 1 = cc in absurd (omega arith)
 
-  module _ (f : Found) (q : f ≡ found_at most_transactions (first_index free opens)) where
-    pub none_free : f ≡ Found.Nothing → not (any free opens) ≡ true
+  module _ (f : Option ℕ) (q : f ≡ found_at most_transactions (first_index free opens)) where
+    pub none_free : f ≡ None → not (any free opens) ≡ true
     none_free e = no_free (sym q ∙ e)
 
-    pub one_free : (j : ℕ) → f ≡ Found.At j → not (any free opens) ≡ false
+    pub one_free : (j : ℕ) → f ≡ Some j → not (any free opens) ≡ false
     one_free j e = (first_free_lem j (sym q ∙ e)).0
 
-    pub free_at : (j : ℕ) → f ≡ Found.At j → FreeAt (view_of s m) j
+    pub free_at : (j : ℕ) → f ≡ Some j → FreeAt (view_of s m) j
     free_at j e = (first_free_lem j (sym q ∙ e)).1
 
 -- ---- what the functions that write ask for of the lent part, by what the tests found
-module _ (on : Form → Bool) (e : Admission) (s : Sizes) (n : ℕ) (m : List ℕ) (t : Scans) (a : e ≡ Admission.Fit s n) (b : Admits on e m t) (d : Tested) (j : ℕ) (p : d ≡ Tested.Passed j) where
+module _ (on : Form → Bool) (s : Sizes) (n : ℕ) (m : List ℕ) (t : Scans) (b : Admits on (Ok (s, n)) m t) (j : ℕ) where
   seen : view_of s (take n m) ≡ view_of s m
-  seen = part_seen (admitted on e s n m t a b).0
+  seen = part_seen (admitted on s n m t b).0
 
-  pub free_in_part : Finds d (FreeAt (view_of s m)) → FreeAt (view_of s (take n m)) j
-  free_in_part h = rw seen (found d _ j p h)
+  pub free_in_part : Finds (Ok j) (FreeAt (view_of s m)) → FreeAt (view_of s (take n m)) j
+  free_in_part h = rw seen (found _ j h)
 
-  pub open_in_part : (k : ℕ) → Finds d (OpenAt (view_of s m) k) → OpenAt (view_of s (take n m)) k j
-  open_in_part k h = rw seen (found d _ j p h)
+  pub open_in_part : (k : ℕ) → Finds (Ok j) (OpenAt (view_of s m) k) → OpenAt (view_of s (take n m)) k j
+  open_in_part k h = rw seen (found _ j h)
 
-  pub number_in_part : IfPassed d (transactions_given (view_of s m) < most_numbers) → transactions_given (view_of s (take n m)) < most_numbers
-  number_in_part h = rw seen (if_passed d _ j p h)
+  pub number_in_part : IfPassed (Ok j) (transactions_given (view_of s m) < most_numbers) → transactions_given (view_of s (take n m)) < most_numbers
+  number_in_part h = rw seen (if_passed _ j h)
 
-  pub row_in_part : IfPassed d (rows_given (view_of s m) < s.rows) → rows_given (view_of s (take n m)) < s.rows
-  row_in_part h = rw seen (if_passed d _ j p h)
+  pub row_in_part : IfPassed (Ok j) (rows_given (view_of s m) < s.rows) → rows_given (view_of s (take n m)) < s.rows
+  row_in_part h = rw seen (if_passed _ j h)
 
-  pub room_in_part : (r k : ℕ) → IfPassed d (Room s (view_of s m) r k) → Room s (view_of s (take n m)) r k
-  room_in_part r k h = rw seen (if_passed d _ j p h)
+  pub room_in_part : (r k : ℕ) → IfPassed (Ok j) (Room s (view_of s m) r k) → Room s (view_of s (take n m)) r k
+  room_in_part r k h = rw seen (if_passed _ j h)
 
-  pub wanted_in_part : (r k : ℕ) → IfPassed d (Room s (view_of s m) r (records_wanted (view_of s m) r k))
+  pub wanted_in_part : (r k : ℕ) → IfPassed (Ok j) (Room s (view_of s m) r (records_wanted (view_of s m) r k))
       → Room s (view_of s (take n m)) r (records_wanted (view_of s (take n m)) r k)
-  wanted_in_part r k h = rw seen (if_passed d _ j p h)
+  wanted_in_part r k h = rw seen (if_passed _ j h)
 
 -- the tests of begin, with a keeper or without
-pub begin_tests_lem : (s : Sizes) (m : List ℕ) (d : Tested) → Says d (verdict (begin_tests_in (view_of s m))) → Tests s m Call.begin d
+pub begin_tests_lem : (s : Sizes) (m : List ℕ) (d : Result ℕ Refusal) → Says d (verdict (begin_tests_in (view_of s m))) → Tests s m Call.begin d
 unfolding Tests tests_in
 begin_tests_lem s m d h = λ ps. h
 
-pub begin_as_tests : (s : Sizes) (m : List ℕ) (x : ℕ) (d : Tested) → Says d (verdict (begin_tests_in (view_of s m))) → Tests s m (Call.begin_as x) d
+pub begin_as_tests : (s : Sizes) (m : List ℕ) (x : ℕ) (d : Result ℕ Refusal) → Says d (verdict (begin_tests_in (view_of s m))) → Tests s m (Call.begin_as x) d
 unfolding Tests tests_in
 begin_as_tests s m x d h = λ ps. h
 

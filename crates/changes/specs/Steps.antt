@@ -1,6 +1,6 @@
 -- The tests that update and delete share.
 use Rattle.std.specs.Prelude.{ℕ, List, [], ◌∷◌}
-use Rattle.terms.specs.Measures.{Shape}
+use Rattle.terms.specs.declared.Shape.{Shape}
 use Rattle.terms.specs.declared.Refusal.{Refusal}
 use Rattle.layout.specs.View.{View}
 use Rattle.history.specs.History.{Test, ◌when◌}

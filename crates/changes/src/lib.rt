@@ -1,6 +1,6 @@
 // The calls that change transactions and rows, over a lent memory and the table of the scan list: begin, begin as, insert, update, delete, commit, abort. Each call is the
 // test of memory and list, the call's own tests in the order of section 4 of docs/SPECIFICATION.md, and then the function that writes, over the needed bytes.
-#![tactic(auto)]
+#![tactic(auto, using(admission::proofs::Served::serving, admission::proofs::Decided::deciding, crate::proofs::Tests::in_part, crate::proofs::Tests::row_inside, crate::proofs::Tests::range_inside, crate::proofs::Tests::lacks_is, crate::proofs::Tests::room_left, crate::proofs::Tests::full, crate::proofs::Tests::not_full, crate::proofs::Tests::none_free, crate::proofs::Tests::one_free, crate::proofs::Tests::free_at), unfolding(admission::specs::Tested::IfPassed, admission::specs::Tested::Finds, admission::specs::Tested::Tests, model::specs::Calls::tests_in, model::specs::Calls::begin_tests_in, model::specs::Calls::reply_in, model::specs::Calls::act_in, model::specs::Calls::entries_after))]
 
 ghost use Rattle.std.specs.Prelude.{◌≡◌, List, ℤ, ◌<◌};
 ghost use Rattle.terms.specs.Measures.{most_numbers};
@@ -15,14 +15,13 @@ ghost use Rattle.admission.specs.Admitted.{Fitted};
 ghost use Rattle.admission.specs.Tested.{Says, Finds, IfPassed, Tests};
 ghost use Rattle.changes.specs.Steps.{append_tests};
 
-use admission::{Admission, Tested, admit, admit_in, earlier, given_range};
+use admission::{admit, admit_in, earlier, given_range};
 use conditions::{bad_mask, gone, held, lacks_records, open_index};
 use layout::{HEADER_ROWS, HEADER_TRANSACTIONS, Region, Sizes};
-use loops::Found;
 use regions::read;
 use scans::Scans;
 use terms::limits::{MOST_COLUMNS, MOST_NUMBERS};
-use terms::{Answer, Form, Refusal, Row, Stamp, Transaction};
+use terms::{Answer, Fields, Form, Refusal, Row, Stamp, Transaction};
 use transactions::free_index;
 use writing::records_wanted;
 
@@ -32,67 +31,50 @@ use writing::records_wanted;
 const UNKNOWN_KEEPER: u32 = 0;
 
 // The tests of begin, with a keeper or without; where they are passed, the index of the first free open entry.
-fn begin_tests(mem: &[u8], s: Sizes) -> Tested
+fn begin_tests(mem: &[u8], s: Sizes) -> Result<usize, Refusal>
     requires { Fitted s mem.now }
     ensures says { Says result (verdict (begin_tests_in (view_of s mem.now))) }
     ensures finds { Finds result (FreeAt (view_of s mem.now)) }
     ensures if_passed { IfPassed result (transactions_given (view_of s mem.now) < most_numbers) }
 {
     if read(mem, s, Region::Header, HEADER_TRANSACTIONS) >= MOST_NUMBERS {
-        return Tested::Failed(Refusal::Number);
+        return Err(Refusal::Number);
     }
-    let Found::At(free) = free_index(mem, s) else {
-        return Tested::Failed(Refusal::Busy);
-    };
-    Tested::Passed(free)
+    free_index(mem, s).ok_or(Refusal::Busy)
 }
 
 // A transaction of no known keeper is opened; the answer is its number.
 pub fn begin(mem: &mut [u8], scans: Scans) -> Answer
     ensures { ServesBy scans mem.old Call.begin result mem.new kept }
 {
-    let Admission::Fit(s, n) = admit(mem, scans) else {
-        return Answer::Refused(Refusal::Memory);
-    };
-    match begin_tests(mem, s) {
-        Tested::Failed(x) => Answer::Refused(x),
-        Tested::Passed(free) => Answer::Number(
-            transactions::begin(&mut mem[..n], s, free, UNKNOWN_KEEPER).0,
-        ),
-    }
+    let (s, n) = admit(mem, scans)?;
+    let free = begin_tests(mem, s)?;
+    Ok(Fields::Number(transactions::begin(&mut mem[..n], s, free, UNKNOWN_KEEPER).0))
 }
 
 // A transaction of a keeper is opened; the answer is its number.
 pub fn begin_as(mem: &mut [u8], scans: Scans, keeper: u32) -> Answer
     ensures { ServesBy scans mem.old (Call.begin_as keeper) result mem.new kept }
 {
-    let Admission::Fit(s, n) = admit_in(mem, scans, Form::Newest) else {
-        return Answer::Refused(Refusal::Memory);
-    };
-    match begin_tests(mem, s) {
-        Tested::Failed(x) => Answer::Refused(x),
-        Tested::Passed(free) => Answer::Number(
-            transactions::begin(&mut mem[..n], s, free, keeper).0,
-        ),
-    }
+    let (s, n) = admit_in(mem, scans, Form::Newest)?;
+    let free = begin_tests(mem, s)?;
+    Ok(Fields::Number(transactions::begin(&mut mem[..n], s, free, keeper).0))
 }
 
 // ---- insert
 
 // The tests of insert; where they are passed, the transaction's index.
-fn insert_tests(mem: &[u8], s: Sizes, t: Transaction) -> Tested
+fn insert_tests(mem: &[u8], s: Sizes, t: Transaction) -> Result<usize, Refusal>
     requires { Fitted s mem.now }
     ensures tests { (vs : List ℤ) → Tests s mem.now (Call.insert t.0 vs) result }
     ensures finds { Finds result (OpenAt (view_of s mem.now) t.0) }
     ensures if_passed { IfPassed result (rows_given (view_of s mem.now) < s.rows) }
 {
-    let Found::At(at) = open_index(mem, s, t) else {
-        return Tested::Failed(Refusal::Transaction);
-    };
+    let at = open_index(mem, s, t).ok_or(Refusal::Transaction)?;
     if read(mem, s, Region::Header, HEADER_ROWS) as usize >= s.rows {
-        return Tested::Failed(Refusal::Full);
+        return Err(Refusal::Full);
     }
-    Tested::Passed(at)
+    Ok(at)
 }
 
 // A row with a value for each column; the answer is its number. Values past the column count are not looked at.
@@ -104,15 +86,9 @@ pub fn insert(
 ) -> Answer
     ensures { ServesBy scans mem.old (Call.insert transaction.0 values) result mem.new kept }
 {
-    let Admission::Fit(s, n) = admit(mem, scans) else {
-        return Answer::Refused(Refusal::Memory);
-    };
-    match insert_tests(mem, s, transaction) {
-        Tested::Failed(x) => Answer::Refused(x),
-        Tested::Passed(at) => Answer::Number(
-            writing::insert(&mut mem[..n], s, at, transaction, values).0,
-        ),
-    }
+    let (s, n) = admit(mem, scans)?;
+    let at = insert_tests(mem, s, transaction)?;
+    Ok(Fields::Number(writing::insert(&mut mem[..n], s, at, transaction, values).0))
 }
 
 // ---- update and delete
@@ -126,7 +102,7 @@ fn append_tests(
     row: Row,
     g: usize,
     n: u32,
-) -> Tested
+) -> Result<usize, Refusal>
     requires fitted { Fitted s mem.now }
     requires open_at { OpenAt (view_of s mem.now) t.0 at × (row.0 < rows_given (view_of s mem.now)) × (g ≡ range_of row.0) }
     ensures says { Says result (verdict (append_tests (shape_in s) (view_of s mem.now) t.0 row.0 n)) }
@@ -134,32 +110,28 @@ fn append_tests(
     ensures if_passed { IfPassed result (Room s (view_of s mem.now) row.0 n) }
 {
     if held(mem, s, t, row) {
-        return Tested::Failed(Refusal::Held);
+        return Err(Refusal::Held);
     }
     if gone(mem, s, t, row) {
-        return Tested::Failed(Refusal::Gone);
+        return Err(Refusal::Gone);
     }
     if lacks_records(mem, s, g, n) {
-        return Tested::Failed(Refusal::Tail);
+        return Err(Refusal::Tail);
     }
-    Tested::Passed(at)
+    Ok(at)
 }
 
 // The tests of update; where they are passed, the transaction's index.
-fn update_tests(mem: &[u8], s: Sizes, t: Transaction, row: Row, mask: u32) -> Tested
+fn update_tests(mem: &[u8], s: Sizes, t: Transaction, row: Row, mask: u32) -> Result<usize, Refusal>
     requires { Fitted s mem.now }
     ensures tests { (vs : List ℤ) → Tests s mem.now (Call.update t.0 row.0 mask vs) result }
     ensures finds { Finds result (OpenAt (view_of s mem.now) t.0) }
     ensures if_passed { IfPassed result (Room s (view_of s mem.now) row.0 (records_wanted (view_of s mem.now) row.0 mask)) }
 {
-    let Found::At(at) = open_index(mem, s, t) else {
-        return Tested::Failed(Refusal::Transaction);
-    };
-    let Found::At(g) = given_range(mem, s, row) else {
-        return Tested::Failed(Refusal::Row);
-    };
+    let at = open_index(mem, s, t).ok_or(Refusal::Transaction)?;
+    let g = given_range(mem, s, row).ok_or(Refusal::Row)?;
     if bad_mask(s.columns, mask) {
-        return Tested::Failed(Refusal::Mask);
+        return Err(Refusal::Mask);
     }
     append_tests(mem, s, at, t, row, g, records_wanted(mem, s, row, mask))
 }
@@ -175,31 +147,21 @@ pub fn update(
 ) -> Answer
     ensures { ServesBy scans mem.old (Call.update transaction.0 row.0 mask values) result mem.new kept }
 {
-    let Admission::Fit(s, n) = admit(mem, scans) else {
-        return Answer::Refused(Refusal::Memory);
-    };
+    let (s, n) = admit(mem, scans)?;
     let m = mask as u32;
-    match update_tests(mem, s, transaction, row, m) {
-        Tested::Failed(x) => Answer::Refused(x),
-        Tested::Passed(at) => Answer::Number(
-            writing::update(&mut mem[..n], s, at, transaction, row, m, values).0,
-        ),
-    }
+    let at = update_tests(mem, s, transaction, row, m)?;
+    Ok(Fields::Number(writing::update(&mut mem[..n], s, at, transaction, row, m, values).0))
 }
 
 // The tests of delete; where they are passed, the transaction's index.
-fn delete_tests(mem: &[u8], s: Sizes, t: Transaction, row: Row) -> Tested
+fn delete_tests(mem: &[u8], s: Sizes, t: Transaction, row: Row) -> Result<usize, Refusal>
     requires { Fitted s mem.now }
     ensures tests { Tests s mem.now (Call.delete t.0 row.0) result }
     ensures finds { Finds result (OpenAt (view_of s mem.now) t.0) }
     ensures if_passed { IfPassed result (Room s (view_of s mem.now) row.0 1) }
 {
-    let Found::At(at) = open_index(mem, s, t) else {
-        return Tested::Failed(Refusal::Transaction);
-    };
-    let Found::At(g) = given_range(mem, s, row) else {
-        return Tested::Failed(Refusal::Row);
-    };
+    let at = open_index(mem, s, t).ok_or(Refusal::Transaction)?;
+    let g = given_range(mem, s, row).ok_or(Refusal::Row)?;
     append_tests(mem, s, at, t, row, g, 1)
 }
 
@@ -207,74 +169,51 @@ fn delete_tests(mem: &[u8], s: Sizes, t: Transaction, row: Row) -> Tested
 pub fn delete(mem: &mut [u8], scans: Scans, transaction: Transaction, row: Row) -> Answer
     ensures { ServesBy scans mem.old (Call.delete transaction.0 row.0) result mem.new kept }
 {
-    let Admission::Fit(s, n) = admit(mem, scans) else {
-        return Answer::Refused(Refusal::Memory);
-    };
-    match delete_tests(mem, s, transaction, row) {
-        Tested::Failed(x) => Answer::Refused(x),
-        Tested::Passed(at) => Answer::Number(
-            writing::delete(&mut mem[..n], s, at, transaction, row).0,
-        ),
-    }
+    let (s, n) = admit(mem, scans)?;
+    let at = delete_tests(mem, s, transaction, row)?;
+    Ok(Fields::Number(writing::delete(&mut mem[..n], s, at, transaction, row).0))
 }
 
 // ---- commit and abort
 
 // The tests of commit; where they are passed, the transaction's index.
-fn commit_tests(mem: &[u8], s: Sizes, t: Transaction, stamp: Stamp) -> Tested
+fn commit_tests(mem: &[u8], s: Sizes, t: Transaction, stamp: Stamp) -> Result<usize, Refusal>
     requires { Fitted s mem.now }
     ensures tests { Tests s mem.now (Call.commit t.0 stamp.0) result }
     ensures finds { Finds result (OpenAt (view_of s mem.now) t.0) }
 {
-    let Found::At(at) = open_index(mem, s, t) else {
-        return Tested::Failed(Refusal::Transaction);
-    };
+    let at = open_index(mem, s, t).ok_or(Refusal::Transaction)?;
     if earlier(mem, s, stamp) {
-        return Tested::Failed(Refusal::Time);
+        return Err(Refusal::Time);
     }
-    Tested::Passed(at)
+    Ok(at)
 }
 
 // What a transaction has changed holds from a stamp on.
 pub fn commit(mem: &mut [u8], scans: Scans, transaction: Transaction, stamp: Stamp) -> Answer
     ensures { ServesBy scans mem.old (Call.commit transaction.0 stamp.0) result mem.new kept }
 {
-    let Admission::Fit(s, n) = admit(mem, scans) else {
-        return Answer::Refused(Refusal::Memory);
-    };
-    match commit_tests(mem, s, transaction, stamp) {
-        Tested::Failed(x) => Answer::Refused(x),
-        Tested::Passed(at) => {
-            transactions::commit(&mut mem[..n], s, at, stamp);
-            Answer::Done
-        }
-    }
+    let (s, n) = admit(mem, scans)?;
+    let at = commit_tests(mem, s, transaction, stamp)?;
+    transactions::commit(&mut mem[..n], s, at, stamp);
+    Ok(Fields::Done)
 }
 
 // The test of abort; where it is passed, the transaction's index.
-fn abort_tests(mem: &[u8], s: Sizes, t: Transaction) -> Tested
+fn abort_tests(mem: &[u8], s: Sizes, t: Transaction) -> Result<usize, Refusal>
     requires { Fitted s mem.now }
     ensures tests { Tests s mem.now (Call.abort t.0) result }
     ensures finds { Finds result (OpenAt (view_of s mem.now) t.0) }
 {
-    let Found::At(at) = open_index(mem, s, t) else {
-        return Tested::Failed(Refusal::Transaction);
-    };
-    Tested::Passed(at)
+    open_index(mem, s, t).ok_or(Refusal::Transaction)
 }
 
 // What a transaction has changed is as if it had not been.
 pub fn abort(mem: &mut [u8], scans: Scans, transaction: Transaction) -> Answer
     ensures { ServesBy scans mem.old (Call.abort transaction.0) result mem.new kept }
 {
-    let Admission::Fit(s, n) = admit(mem, scans) else {
-        return Answer::Refused(Refusal::Memory);
-    };
-    match abort_tests(mem, s, transaction) {
-        Tested::Failed(x) => Answer::Refused(x),
-        Tested::Passed(at) => {
-            transactions::abort(&mut mem[..n], s, at);
-            Answer::Done
-        }
-    }
+    let (s, n) = admit(mem, scans)?;
+    let at = abort_tests(mem, s, transaction)?;
+    transactions::abort(&mut mem[..n], s, at);
+    Ok(Fields::Done)
 }

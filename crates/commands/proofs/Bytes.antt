@@ -3,7 +3,7 @@ use Prim.Native.Nat.{ℕ, zero, suc, ◌+◌, ◌-◌, ◌*◌, ◌^◌, ◌≤�
 use mathlib.Core.Path.{◌≡◌, refl, ap, ◌∙◌}
 use mathlib.Core.List.{List, [], ◌∷◌, ◌++◌, map-append}
 use native.Mathlib.Omega.{arith}
-use native.Mathlib.Nat.{pow-succ', pow-le-pow_right}
+use native.Mathlib.Nat.{zero-add, pow-succ', pow-le-pow_right}
 use native.Mathlib.Numerals.{add-one}
 use lib.ListN.{length, get_or, set, take, replicate}
 use lib.Seq.{slice, slice-cons, slice_empty, take-suc, take-suc-set, get_or-set_other}
@@ -12,7 +12,7 @@ use mir.Syntax.{w32}
 use mir.Val.{to_z}
 use Rattle.words.specs.Words.{words}
 use Rattle.words.proofs.Words.{length_words}
-use Rattle.commands.specs.Commands.{operand_bytes, Narrow, total, little_endian, values}
+use Rattle.commands.specs.Commands.{operand_bytes, Narrow, total, little_endian, operand, operands, values}
 use Rattle.commands.specs.Decoded.{ZerosPast}
 
 -- ---- a number
@@ -41,9 +41,35 @@ pub room : (k total : ℕ) → total < 256 ^ k → k ≤ 3 → total < 16777216
 room k total h l = omega (arith, pow-le-pow_right {n = 256} (omega arith) l)
 
 -- ---- narrow operands
-pub total_most : (ws : List ℕ) → Narrow ws → total ws ≤ length ws * operand_bytes
-total_most [] h = omega arith
-total_most (w ∷ ws) h = omega (arith, total_most ws h.1)
+pub narrow_at : (ws : List ℕ) (i : ℕ) → Narrow ws → get_or ws i 0 ≤ operand_bytes
+narrow_at [] i h = omega arith
+narrow_at (w ∷ ws) zero h = h.0
+narrow_at (w ∷ ws) (suc i) h = narrow_at ws i h.1
+
+pub total_next : (ws : List ℕ) (i : ℕ) → i < length ws → total (take (suc i) ws) ≡ total (take i ws) + get_or ws i 0
+total_next [] i h = absurd (omega arith)
+total_next (w ∷ ws) zero h = omega arith
+total_next (w ∷ ws) (suc i) h = omega (arith, total_next ws i (omega arith))
+
+pub total_part : (ws : List ℕ) (i : ℕ) → total (take i ws) + get_or ws i 0 ≤ total ws
+total_part [] zero = omega arith
+total_part [] (suc i) = omega arith
+total_part (w ∷ ws) zero = omega arith
+total_part (w ∷ ws) (suc i) = omega (arith, total_part ws i)
+
+-- ---- operands
+one_more : (at : ℕ) (ws bs : List ℕ) (i : ℕ) → i < length ws
+    → operands at (take (suc i) ws) bs ≡ operands at (take i ws) bs ++ operand (at + total (take i ws)) (get_or ws i 0) bs ∷ []
+unfolding operands
+one_more at [] bs i h = absurd (omega arith)
+one_more at (w ∷ ws) bs zero h = ap (λ (k : ℕ). operand k w bs ∷ []) (omega arith)
+one_more at (w ∷ ws) bs (suc i) h =
+    ap (λ (l : List ℕ). operand at w bs ∷ l)
+    (one_more (at + w) ws bs i (omega arith) ∙ ap (λ (k : ℕ). operands (at + w) (take i ws) bs ++ operand k (get_or ws i 0) bs ∷ []) (omega arith))
+
+pub operand_next : (bs out ws : List ℕ) (i at v : ℕ) → take i out ≡ operands 0 (take i ws) bs → at ≡ total (take i ws) → v ≡ operand at (get_or ws i 0) bs
+    → i < length ws → i < length out → take (i + 1) (set out i v) ≡ operands 0 (take (i + 1) ws) bs
+operand_next bs out ws i at v e p q h l = rw (add-one i, take-suc-set out i v, one_more 0 ws bs i h, e, q, p, zero-add) refl
 
 -- ---- values
 pub value_next : (bytes : List ℕ) (out : List ℤ) (i w : ℕ) (v : ℤ) → take i out ≡ values i bytes → w ≡ get_or (words bytes) i 0 → v ≡ to_z w32 w

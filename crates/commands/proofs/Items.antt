@@ -4,13 +4,13 @@ use mathlib.Core.Path.{◌≡◌, refl, ap, sym}
 use mathlib.Core.List.{List, [], ◌∷◌}
 use native.Mathlib.Omega.{arith}
 use lib.ListN.{length, length-drop}
-use Rattle.commands.specs.declared.Chosen.{Chosen}
-use Rattle.commands.specs.Commands.{Item, chosen, width, item_at, behind, items}
+use Rattle.std.specs.Prelude.{Ok, Err}
+use Rattle.commands.specs.Commands.{Chosen, Item, chosen, width, item_at, behind, items}
 
 pub behind_shorter : (columns : ℕ) (k : Chosen) (bs : List ℕ) → length (behind columns k bs) ≤ length bs
 unfolding behind
-behind_shorter columns (Chosen.Known f) bs = omega (arith, length-drop (width columns f) bs)
-behind_shorter columns (Chosen.Refused r) bs = omega arith
+behind_shorter columns (Ok f) bs = omega (arith, length-drop (width columns f) bs)
+behind_shorter columns (Err r) bs = omega arith
 
 pub items_none : (most columns : ℕ) → items most columns [] ≡ []
 unfolding items

@@ -1,9 +1,10 @@
 -- What the bytes that `gatebook` reads mean: rules 12.1 to 12.3 of docs/SPECIFICATION.md. Every definition here is executable.
-use Rattle.std.specs.Prelude.{Bool, true, false, cond, List, [], ◌∷◌, map, ℕ, zero, suc, ◌+◌, ◌*◌, ◌≤◌, leb, length, get_or, take, drop, replicate, ℤ}
+use Rattle.std.specs.Prelude.{Bool, true, false, cond, Result, Ok, Err, List, [], ◌∷◌, ◌++◌, map, ℕ, zero, suc, ◌+◌, ◌*◌, ◌≤◌, leb, length, get_or, take, drop, replicate, ℤ}
 use Rattle.std.proofs.Math.Seq.{slice}
 use Rattle.std.specs.Int.{w32}
 use Rattle.std.proofs.Common.{to_z}
-use Rattle.terms.specs.Measures.{Shape, most_columns, lent_stamps}
+use Rattle.terms.specs.Measures.{most_columns, lent_stamps}
+use Rattle.terms.specs.declared.Shape.{Shape}
 use Rattle.terms.specs.declared.Refusal.{Refusal}
 use Rattle.words.specs.Words.{words}
 use Rattle.history.specs.History.{Call, begin, insert, update, delete, commit, abort, latest, read_at, own_read, open_scan, scan_read, sum, close, merge, release, page_cell, lineage, crossings, begin_as, keeper_at}
@@ -11,7 +12,6 @@ use Rattle.commands.specs.declared.Read.{Read}
 use Rattle.commands.specs.declared.Write.{Write}
 use Rattle.commands.specs.declared.Kind.{Kind}
 use Rattle.commands.specs.declared.Format.{Format}
-use Rattle.commands.specs.declared.Chosen.{Chosen}
 
 -- ---- widths
 -- the most operands of a command, and the most bytes of one
@@ -35,29 +35,25 @@ command_bytes = 1 + operands_bytes
 -- ---- the commands
 -- the format of a call with operands of the given widths, and of none past them
 abbrev pub format_of : Kind → List ℕ → Bool → Format
-format_of k ws vs = record {
-  kind = k;
-  first = get_or ws 0 0;
-  second = get_or ws 1 0;
-  third = get_or ws 2 0;
-  fourth = get_or ws 3 0;
-  fifth = get_or ws 4 0;
-  values = vs;
-}
+format_of k ws vs = record { kind = k; widths = take most_operands (ws ++ replicate most_operands 0); values = vs }
 
 abbrev pub widths_of : Format → List ℕ
-widths_of f = f.first ∷ f.second ∷ f.third ∷ f.fourth ∷ f.fifth ∷ []
+widths_of f = f.widths
+
+-- 3.19: what a command byte stands for, or the refusal of one that is no command
+abbrev pub Chosen : Type 0
+Chosen = Result Format Refusal
 
 abbrev pub numbers : Kind → List ℕ → Chosen
-numbers k ws = Chosen.Known (format_of k ws false)
+numbers k ws = Ok (format_of k ws false)
 
 abbrev pub numbers_and_values : Kind → List ℕ → Chosen
-numbers_and_values k ws = Chosen.Known (format_of k ws true)
+numbers_and_values k ws = Ok (format_of k ws true)
 
 -- Each command byte from 00 on: the call, the widths of its operands in bytes, and whether every column's value follows.
 unfoldable pub commands : List Chosen
 commands =
-    Chosen.Refused Refusal.Command
+    Err Refusal.Command
     -- 01 begin
     ∷ numbers (Kind.Write Write.Begin) []
     -- 02 insert: transaction (2), every column's value (4 each)
@@ -102,7 +98,7 @@ commands =
 
 -- 3.19: a byte that is no command
 unfoldable pub chosen : ℕ → Chosen
-chosen byte = get_or commands byte (Chosen.Refused Refusal.Command)
+chosen byte = get_or commands byte (Err Refusal.Command)
 
 -- Each operand has at most so many bytes.
 abbrev pub Narrow : List ℕ → Type 0
@@ -202,13 +198,13 @@ pub data Item : Type 0 where
 
 -- what stands at a byte with bs behind it, and the bytes that are left after it
 unfoldable pub item_at : ℕ → ℕ → Chosen → List ℕ → Item
-item_at columns byte (Chosen.Known f) bs =
+item_at columns byte (Ok f) bs =
     cond (leb (width columns f) (length bs)) (command byte (call_from columns f bs)) (refused byte Refusal.Cut)
-item_at columns byte (Chosen.Refused r) bs = refused byte r
+item_at columns byte (Err r) bs = refused byte r
 
 unfoldable pub behind : ℕ → Chosen → List ℕ → List ℕ
-behind columns (Chosen.Known f) bs = drop (width columns f) bs
-behind columns (Chosen.Refused r) bs = []
+behind columns (Ok f) bs = drop (width columns f) bs
+behind columns (Err r) bs = []
 
 -- The commands in bs. The first argument bounds their number, and that of the bytes is enough (proofs/Items.antt).
 unfoldable pub items : ℕ → ℕ → List ℕ → List Item

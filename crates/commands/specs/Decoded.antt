@@ -1,13 +1,8 @@
 -- The call that a decoded command stands for, and what holds of the array of its values.
 use Rattle.std.specs.Prelude.{ℕ, ◌≤◌, ◌≡◌, List, ℤ, pos, get_or, take}
-use Rattle.terms.specs.Measures.{Shape}
 use Rattle.history.specs.History.{Call}
-use Rattle.commands.specs.declared.Measures.{Measures}
 use Rattle.commands.specs.declared.Request.{Request}
 use Rattle.commands.specs.Commands.{call_of}
-
-abbrev pub measured : Measures → Shape
-measured m = record { columns = m.columns; ranges = m.ranges; capacity = m.capacity; spares = m.spares }
 
 abbrev pub call_in : Request → Call
 call_in r = call_of r.kind r.operands (take r.count r.values)

@@ -2,7 +2,7 @@
 // adds. Each answers by the model's definition of the same meaning.
 #![tactic(auto)]
 
-ghost use Rattle.std.specs.Prelude.{◌≡◌, ◌&&◌, ◌||◌, ℕ, ◌+◌, ◌*◌, ◌^◌, ◌≤◌, ◌<◌, eqb, leb, ltb, get_or};
+ghost use Rattle.std.specs.Prelude.{◌≡◌, ◌&&◌, ◌||◌, ℕ, Bool, ◌+◌, ◌*◌, ◌^◌, ◌≤◌, ◌<◌, eqb, leb, ltb, get_or};
 ghost use Rattle.terms.specs.Measures.{most_columns, most_slots, most_transactions};
 ghost use Rattle.layout.specs.declared.Region.{Region};
 ghost use Rattle.layout.specs.View.{rows_given, used_in, view_of, Suffices};
@@ -17,7 +17,7 @@ ghost use Rattle.conditions.specs.Records.{is_other, holds_at, deletes_at, ends_
 
 use layout::codes::{COMMITTED, SETTING};
 use layout::{Region, Sizes};
-use loops::{Found, both, either};
+use loops::{both, either};
 use regions::{find_in, read};
 use rows::range_of;
 use terms::limits::MOST_TRANSACTIONS;
@@ -27,20 +27,50 @@ use transactions::pending::pending_at;
 // From so many records on a loop that vectorises is quicker than one with an early exit.
 const MANY: usize = 8;
 
+// Whether one of the numbers below n passes, by each test p that tells what the closure answers. One flag is carried to the end: a loop with an early exit does
+// not vectorise.
+#[tactic(auto, unfolding(model::specs::Stored::any_below))]
+pub fn any_below<F: Fn(usize) -> bool>(n: usize, passes: F) -> bool
+    requires { (i : ℕ) → i < n → F.pre passes i }
+    ensures { (p : ℕ → Bool) → ((i : ℕ) (b : Bool) → i < n → F.post passes i b → b ≡ p i) → result ≡ any_below p n }
+{
+    let mut flag = false;
+    for i in 0..n {
+        flag = either(flag, passes(i));
+    }
+    flag
+}
+
+// The same, ended by the first that passes: for a test that costs more than a turn.
+#[tactic(auto, unfolding(model::specs::Stored::any_below))]
+fn found_below<F: Fn(usize) -> bool>(n: usize, passes: F) -> bool
+    requires { (i : ℕ) → i < n → F.pre passes i }
+    ensures { (p : ℕ → Bool) → ((i : ℕ) (b : Bool) → i < n → F.post passes i b → b ≡ p i) → result ≡ any_below p n }
+{
+    for i in 0..n {
+        if passes(i) {
+            return true;
+        }
+    }
+    false
+}
+
 // The index of an open transaction. Number 0 marks a free entry, so that it is never found.
-pub fn open_index(mem: &[u8], s: Sizes, t: Transaction) -> Found
+#[tactic(auto, using(crate::proofs::Opens::open_none, crate::proofs::Opens::open_found))]
+pub fn open_index(mem: &[u8], s: Sizes, t: Transaction) -> Option<usize>
     requires { Suffices s mem.now }
     ensures value { result ≡ open_at (view_of s mem.now) t.0 }
     ensures inside { Inside result most_transactions }
 {
     let number = t.0;
     if number == 0 {
-        return Found::Nothing;
+        return None;
     }
     find_in(mem, s, Region::Opens, 0, MOST_TRANSACTIONS, number)
 }
 
 // Whose own changes an own read of the transaction open at `index` adds: its record tells. With nothing noted there are none, and it is the latest read.
+#[tactic(auto, using(transactions::proofs::Number::number_there), unfolding(model::specs::Reading::own_changes))]
 pub fn own_changes(mem: &[u8], s: Sizes, index: usize) -> Transaction
     requires suffices { Suffices s mem.now }
     requires index_lt_most_transactions { index < most_transactions }
@@ -50,28 +80,19 @@ pub fn own_changes(mem: &[u8], s: Sizes, index: usize) -> Transaction
 }
 
 // Whether transaction k is open and not t.
+#[tactic(auto, unfolding(crate::specs::Opens::open_at, model::specs::Calls::not_open_in, model::specs::Calls::open_other))]
 fn open_other(mem: &[u8], s: Sizes, t: Transaction, k: Transaction) -> bool
     requires { Suffices s mem.now }
     ensures { result ≡ open_other (view_of s mem.now) t.0 k.0 }
 {
-    let me = t.0;
-    let number = k.0;
-    if number == me {
-        return false;
-    }
-    let Found::At(index) = open_index(mem, s, k) else {
-        return false;
-    };
-    true
+    k.0 != t.0 && open_index(mem, s, k).is_some()
 }
 
 // Whether a word of the list of open numbers is another's than t's. Number 0 marks a free entry.
 fn is_other(t: Transaction, k: Transaction) -> bool
     ensures { result ≡ is_other t.0 k.0 }
 {
-    let me = t.0;
-    let number = k.0;
-    if number == 0 { false } else { number != me }
+    k.0 != 0 && k.0 != t.0
 }
 
 // Whether a transaction other than t is open.
@@ -79,14 +100,9 @@ fn others_open(mem: &[u8], s: Sizes, t: Transaction) -> bool
     requires { Suffices s mem.now }
     ensures { result ≡ any_below (λ j. is_other t.0 (get_or (view_of s mem.now Region.Opens) j 0)) most_transactions }
 {
-    let mut j = 0;
-    while j < MOST_TRANSACTIONS {
-        if is_other(t, Transaction(read(mem, s, Region::Opens, j))) {
-            return true;
-        }
-        j += 1;
-    }
-    false
+    found_below(MOST_TRANSACTIONS, |j| {
+        is_other(t, Transaction(read(mem, s, Region::Opens, j)))
+    })
 }
 
 // Whether the record at a slot is of the row and of an open transaction other than t.
@@ -95,9 +111,7 @@ fn holds(mem: &[u8], s: Sizes, t: Transaction, row: Row, slot: usize) -> bool
     requires slot_lt_slots { slot < s.slots }
     ensures { result ≡ holds_at (view_of s mem.now) t.0 row.0 slot }
 {
-    let r = row.0;
-    let named = read(mem, s, Region::TailRow, slot);
-    if named != r {
+    if read(mem, s, Region::TailRow, slot) != row.0 {
         return false;
     }
     let setter = Transaction(read(mem, s, Region::TailTransaction, slot));
@@ -111,20 +125,11 @@ fn records_held(mem: &[u8], s: Sizes, t: Transaction, row: Row, at: usize, n: us
     requires n_bound { (at + n ≤ s.slots) × (s.slots ≤ most_slots) }
     ensures { result ≡ any_below (λ i. holds_at (view_of s mem.now) t.0 row.0 (at + i)) n }
 {
-    if !others_open(mem, s, t) {
-        return false;
-    }
-    let mut i = 0;
-    while i < n {
-        if holds(mem, s, t, row, at + i) {
-            return true;
-        }
-        i += 1;
-    }
-    false
+    others_open(mem, s, t) && found_below(n, |i| holds(mem, s, t, row, at + i))
 }
 
 // Whether another open transaction than t inserted, updated or deleted the row.
+#[tactic(auto, using(rows::proofs::Indices::row_range, crate::proofs::Records::stretch_used), unfolding(model::specs::Calls::held_in, model::specs::Stored::row_in, model::specs::Stored::record_in))]
 pub fn held(mem: &[u8], s: Sizes, t: Transaction, row: Row) -> bool
     requires suffices { Suffices s mem.now }
     requires proper { Proper s }
@@ -155,22 +160,17 @@ fn is_delete(named: Row, row: Row, kind: u32) -> bool
     both(named.0 == row.0, kind > SETTING)
 }
 
-// Whether one of n records from slot `at` on is a delete of the row, whoever made it. One flag is carried to the end: a loop with an early exit does not
-// vectorise.
+// Whether one of n records from slot `at` on is a delete of the row, whoever made it.
 fn any_delete(mem: &[u8], s: Sizes, row: Row, at: usize, n: usize) -> bool
     requires suffices { Suffices s mem.now }
     requires n_bound { (at + n ≤ s.slots) × (s.slots ≤ most_slots) }
     ensures { result ≡ any_below (λ i. deletes_at (view_of s mem.now) row.0 (at + i)) n }
 {
-    let mut flag = false;
-    let mut i = 0;
-    while i < n {
+    any_below(n, |i| {
         let named = Row(read(mem, s, Region::TailRow, at + i));
         let kind = read(mem, s, Region::TailKind, at + i);
-        flag = either(flag, is_delete(named, row, kind));
-        i += 1;
-    }
-    flag
+        is_delete(named, row, kind)
+    })
 }
 
 // Whether the record at a slot ends the row in t's view.
@@ -181,12 +181,12 @@ fn ends(mem: &[u8], s: Sizes, t: Transaction, row: Row, slot: usize) -> bool
 {
     let named = Row(read(mem, s, Region::TailRow, slot));
     let kind = read(mem, s, Region::TailKind, slot);
-    if is_delete(named, row, kind) {
-        let maker = Transaction(read(mem, s, Region::TailTransaction, slot));
-        let state = read(mem, s, Region::TailState, slot);
-        return stands_for(t, maker, state);
+    if !is_delete(named, row, kind) {
+        return false;
     }
-    false
+    let maker = Transaction(read(mem, s, Region::TailTransaction, slot));
+    let state = read(mem, s, Region::TailState, slot);
+    stands_for(t, maker, state)
 }
 
 // Whether one of n records from slot `at` on ends the row in t's view. Most often none is a delete of the row at all, which a look through many records tells
@@ -196,22 +196,14 @@ fn ended(mem: &[u8], s: Sizes, t: Transaction, row: Row, at: usize, n: usize) ->
     requires n_bound { (at + n ≤ s.slots) × (s.slots ≤ most_slots) }
     ensures { result ≡ any_below (λ i. ends_at (view_of s mem.now) t.0 row.0 (at + i)) n }
 {
-    if n >= MANY {
-        if !any_delete(mem, s, row, at, n) {
-            return false;
-        }
+    if n >= MANY && !any_delete(mem, s, row, at, n) {
+        return false;
     }
-    let mut i = 0;
-    while i < n {
-        if ends(mem, s, t, row, at + i) {
-            return true;
-        }
-        i += 1;
-    }
-    false
+    found_below(n, |i| ends(mem, s, t, row, at + i))
 }
 
 // Whether the row is deleted or its insert aborted, in t's own view, for a row that is not held.
+#[tactic(auto, using(rows::proofs::Indices::row_range, crate::proofs::Records::stretch_used), unfolding(model::specs::Calls::gone_in, model::specs::Stored::row_in, model::specs::Stored::record_in))]
 pub fn gone(mem: &[u8], s: Sizes, t: Transaction, row: Row) -> bool
     requires suffices { Suffices s mem.now }
     requires proper { Proper s }
@@ -231,14 +223,12 @@ pub fn gone(mem: &[u8], s: Sizes, t: Transaction, row: Row) -> bool
 }
 
 // Whether a mask has no bit, or one at or above the column count.
+#[tactic(auto, using(crate::proofs::Masks::high_bits))]
 pub fn bad_mask(columns: usize, mask: u32) -> bool
     requires { columns ≤ most_columns }
     ensures { result ≡ (eqb mask 0 || leb (2 ^ columns) mask) }
 {
-    if mask == 0 {
-        return true;
-    }
-    mask >> columns != 0
+    mask == 0 || mask >> columns != 0
 }
 
 // Whether the range g lacks n more tail records.
@@ -256,32 +246,21 @@ fn is_open(mem: &[u8], s: Sizes, k: Transaction) -> bool
     requires { Suffices s mem.now }
     ensures { result ≡ open_in (view_of s mem.now) k.0 }
 {
-    let number = k.0;
-    let mut flag = false;
-    let mut j = 0;
-    while j < MOST_TRANSACTIONS {
-        let word = read(mem, s, Region::Opens, j);
-        flag = either(flag, word == number);
-        j += 1;
-    }
-    if number == 0 { false } else { flag }
+    let found = any_below(MOST_TRANSACTIONS, |j| read(mem, s, Region::Opens, j) == k.0);
+    both(k.0 != 0, found)
 }
 
 // Whether one of the tail records 1 to `through` of range g belongs to an open transaction. As in `is_open` there is no early exit.
+#[tactic(auto, unfolding(model::specs::Calls::open_among_in, model::specs::Stored::record_in))]
 pub fn any_open(mem: &[u8], s: Sizes, g: usize, through: Tail) -> bool
     requires suffices { Suffices s mem.now }
     requires proper { Proper s }
     requires g_lt_ranges { (g < s.ranges) × (through.0 ≤ s.capacity) }
     ensures { result ≡ open_among_in (shape_in s) (view_of s mem.now) g through.0 }
 {
-    let n = through.0 as usize;
     let at = g * s.capacity;
-    let mut flag = false;
-    let mut k = 0;
-    while k < n {
-        let maker = Transaction(read(mem, s, Region::TailTransaction, at + k));
-        flag = either(flag, is_open(mem, s, maker));
-        k += 1;
-    }
-    flag
+    any_below(through.0 as usize, |i| {
+        let maker = Transaction(read(mem, s, Region::TailTransaction, at + i));
+        is_open(mem, s, maker)
+    })
 }

@@ -1,3 +1,2 @@
 -- The pass meets its contracts.
-pub mod Records
 pub mod Standing

@@ -68,7 +68,3 @@ turn n rest zero g ds e p b h l = absurd (omega arith)
 turn n rest (suc i) g ds e p b h l =
     let less : suc i - 1 ≡ i = omega arith in
     (omega arith, rw less (omega (arith, pow-succ' 10 i)), rw less (next n rest i g ds e p h (omega arith)))
-
-pub some_left : (rest from : ℕ) → rest < 10 ^ from → 0 < rest → 0 < from
-some_left rest zero b h = absurd (omega arith)
-some_left rest (suc i) b h = omega arith

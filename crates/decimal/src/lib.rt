@@ -18,7 +18,11 @@ pub fn digit(d: u64) -> u8
     requires { d < 16 }
     ensures { result ≡ digit_of d }
 {
-    if d < 10 { 48 + d as u8 } else { 55 + d as u8 }
+    if d < 10 {
+        b'0' + d as u8
+    } else {
+        b'A' + (d - 10) as u8
+    }
 }
 
 // The bytes of s from `at` on. It answers the index behind them, as each function below does that writes into the buffer.
@@ -26,12 +30,9 @@ pub fn put(out: &mut [u8; LINE_BYTES], at: usize, s: &[u8]) -> usize
     requires { at + length s.now ≤ line_bytes }
     ensures { Written out.old out.new at s.now result }
 {
-    let mut i = 0;
-    while i < s.len() {
-        out[at + i] = s[i];
-        i += 1;
-    }
-    at + i
+    let end = at + s.len();
+    out[at..end].copy_from_slice(s);
+    end
 }
 
 // A number in decimal: the characters of `digits` from `from` on. They are found from the last to the first, so that they stand at the end of the array.
@@ -61,22 +62,16 @@ fn put_decimal(out: &mut [u8; LINE_BYTES], at: usize, n: u64) -> usize
     ensures { Written out.old out.new at (decimal n) result }
 {
     let d = in_decimal(n);
-    let from = d.from;
-    let digits = d.digits;
-    put(out, at, &digits[from..])
+    put(out, at, &d.digits[d.from..])
 }
 
-// The sign, if there is one, and the magnitude. -1 - z is the one signed operation here, and it never overflows.
+// The sign, if there is one, and the magnitude.
 fn put_signed(out: &mut [u8; LINE_BYTES], at: usize, z: i64) -> usize
     requires { at + signed_bytes ≤ line_bytes }
     ensures { Written out.old out.new at (signed z) result × (result ≤ at + signed_bytes) }
 {
-    if z >= 0 {
-        put_decimal(out, at, z as u64)
-    } else {
-        let next = put(out, at, b"-");
-        put_decimal(out, next, (-1 - z) as u64 + 1)
-    }
+    let next = if z < 0 { put(out, at, b"-") } else { at };
+    put_decimal(out, next, z.unsigned_abs())
 }
 
 // One more field: a space, and a number.

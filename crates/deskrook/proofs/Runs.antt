@@ -1,6 +1,6 @@
 -- The demands of the exports: a reply tells the answer of the call that the export hands on to.
 use mathlib.Core.Path.{ap}
-use Rattle.terms.specs.declared.Answer.{Answer}
+use Rattle.terms.specs.Answers.{Answer}
 use Rattle.calls.proofs.Runs.{Faithful, refused_so, refused_kept, unmade_kept, changed_so, merged_so, made_so, unmoved_kept, moved_so, unmoved_so, reads_so, pages_so, outcomes_so, struck_same, minutes_so, scans_so}
 use Rattle.deskrook.specs.Replies.{reply_of, RepliesWith, RepliesMoved, RepliesMade}
 use Rattle.deskrook.specs.Runs.{exports, ExportRefused, ExportKept, ExportMakingKept, ExportChanged, ExportMerged, ExportMakingChanged, ExportMoveKept, ExportMoveChanged, ExportMoveRefused, ExportReads, ExportPages, ExportOutcomes, ExportStriking, ExportMinutes, ExportScans}

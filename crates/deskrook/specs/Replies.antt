@@ -2,9 +2,11 @@
 use Rattle.std.specs.Prelude.{ℕ, ◌≡◌, cond, List, pos}
 use Rattle.std.specs.Int.{w32}
 use Rattle.std.proofs.Common.{of_z}
-use Rattle.terms.specs.Measures.{Shape}
+use Rattle.terms.specs.declared.Shape.{Shape}
 use Rattle.terms.specs.Refusals.{refusal_number}
-use Rattle.terms.specs.declared.Answer.{Answer}
+use Rattle.std.specs.Prelude.{Ok, Err}
+use Rattle.terms.specs.Answers.{Answer}
+use Rattle.terms.specs.declared.Fields.{Fields}
 use Rattle.terms.specs.declared.ScanEntry.{ScanEntry}
 use Rattle.terms.specs.declared.Refusal.{Refusal}
 use Rattle.terms.specs.declared.Form.{Form}
@@ -16,15 +18,15 @@ use Rattle.promise.specs.Promise.{Serves, Gives, Moves, Makes}
 use Rattle.deskrook.specs.declared.reply.Reply.{Reply}
 
 abbrev pub reply_of : Answer → Reply
-reply_of (Answer.Refused r) = record { result = refusal_number r; first = 0; second = 0; stamp = 0; sum = pos 0 }
-reply_of Answer.Done = record { result = 0; first = 0; second = 0; stamp = 0; sum = pos 0 }
-reply_of (Answer.Number n) = record { result = 0; first = n; second = 0; stamp = 0; sum = pos 0 }
-reply_of (Answer.Version v s) = record { result = 0; first = of_z w32 v; second = 0; stamp = s; sum = pos 0 }
-reply_of (Answer.Value v) = record { result = 0; first = of_z w32 v; second = 0; stamp = 0; sum = pos 0 }
-reply_of Answer.None = record { result = 32; first = 0; second = 0; stamp = 0; sum = pos 0 }
-reply_of (Answer.Sum n v) = record { result = 0; first = n; second = 0; stamp = 0; sum = v }
-reply_of (Answer.Lineage n m) = record { result = 0; first = n; second = m; stamp = 0; sum = pos 0 }
-reply_of (Answer.Listed n) = record { result = 0; first = n; second = 0; stamp = 0; sum = pos 0 }
+reply_of (Err r) = record { result = refusal_number r; first = 0; second = 0; stamp = 0; sum = pos 0 }
+reply_of (Ok Fields.Done) = record { result = 0; first = 0; second = 0; stamp = 0; sum = pos 0 }
+reply_of (Ok (Fields.Number n)) = record { result = 0; first = n; second = 0; stamp = 0; sum = pos 0 }
+reply_of (Ok (Fields.Version v s)) = record { result = 0; first = of_z w32 v; second = 0; stamp = s; sum = pos 0 }
+reply_of (Ok (Fields.Value v)) = record { result = 0; first = of_z w32 v; second = 0; stamp = 0; sum = pos 0 }
+reply_of (Ok Fields.None) = record { result = 32; first = 0; second = 0; stamp = 0; sum = pos 0 }
+reply_of (Ok (Fields.Sum n v)) = record { result = 0; first = n; second = 0; stamp = 0; sum = v }
+reply_of (Ok (Fields.Lineage n m)) = record { result = 0; first = n; second = m; stamp = 0; sum = pos 0 }
+reply_of (Ok (Fields.Listed n)) = record { result = 0; first = n; second = 0; stamp = 0; sum = pos 0 }
 
 -- the reply is that of an answer of which P holds
 abbrev pub Replied : (Answer → Type 0) → Reply → Type 0
@@ -45,4 +47,4 @@ RepliesMoved m ps to second r second' = Replied (λ a. Moves m ps (move to secon
 
 -- whether memory and list are usable, as an answer: the number of the form that the memory is in
 unfoldable pub usability : List ℕ → List ScanEntry → Answer
-usability m ps = cond (usable m ps) (Answer.Number (form_number (stored_form (words m)))) (Answer.Refused Refusal.Memory)
+usability m ps = cond (usable m ps) (Ok (Fields.Number (form_number (stored_form (words m))))) (Err Refusal.Memory)

@@ -1,7 +1,7 @@
 // The exports for C and Rust: every call by name, over the lent memory and the lent list of open scans, the making of a store, the bytes that it
 // needs, and a test of memory and list. Numbers are plain, and the answer is a `Reply`. A slice passes as a pointer and a length (of the list: in entries), a
 // number as itself, and the reply by value. Nothing is asked of the numbers, the bytes or the list.
-#![tactic(auto)]
+#![tactic(auto, unfolding(crate::specs::Replies::Replied, crate::specs::Replies::Replies, crate::specs::Replies::RepliesWith, crate::specs::Replies::RepliesMoved, crate::specs::Replies::RepliesMade))]
 
 mod reply;
 

@@ -6,9 +6,9 @@ ghost use Rattle.scans.specs.Table.{table_of};
 ghost use Rattle.deskrook.specs.Replies.{reply_of, usability};
 
 use layout::{FIRST_FORM, NEWEST_FORM};
-use pages::check::{Checked, check};
+use pages::check::check;
 use scans::Scans;
-use terms::{Answer, Form, Refusal, number};
+use terms::{Answer, Fields, Form, Refusal, number};
 use words::to_word;
 
 // An answer as C takes it. `result` is 0 where the call was accepted, 32 for the answer none, else the refusal's number. `first` is the number, the count or the
@@ -26,72 +26,47 @@ pub struct Reply {
 
 const NONE: u32 = 32;
 
+// The reply of an accepted call that answers no field.
+const DONE: Reply = Reply {
+    result: 0,
+    first: 0,
+    second: 0,
+    stamp: 0,
+    sum: 0,
+};
+
 pub fn encode(answer: Answer) -> Reply
     ensures { result ≡ reply_of answer }
 {
     match answer {
-        Answer::Refused(r) => Reply {
+        Err(r) => Reply {
             result: number(r),
-            first: 0,
-            second: 0,
-            stamp: 0,
-            sum: 0,
+            ..DONE
         },
-        Answer::Done => Reply {
-            result: 0,
-            first: 0,
-            second: 0,
-            stamp: 0,
-            sum: 0,
-        },
-        Answer::Number(n) => Reply {
-            result: 0,
-            first: n,
-            second: 0,
-            stamp: 0,
-            sum: 0,
-        },
-        Answer::Value(v) => Reply {
-            result: 0,
+        Ok(Fields::Done) => DONE,
+        Ok(Fields::Number(n)) | Ok(Fields::Listed(n)) => Reply { first: n, ..DONE },
+        Ok(Fields::Value(v)) => Reply {
             first: to_word(v),
-            second: 0,
-            stamp: 0,
-            sum: 0,
+            ..DONE
         },
-        Answer::None => Reply {
+        Ok(Fields::None) => Reply {
             result: NONE,
-            first: 0,
-            second: 0,
-            stamp: 0,
-            sum: 0,
+            ..DONE
         },
-        Answer::Sum(n, v) => Reply {
-            result: 0,
+        Ok(Fields::Sum(n, sum)) => Reply {
             first: n,
-            second: 0,
-            stamp: 0,
-            sum: v,
+            sum,
+            ..DONE
         },
-        Answer::Lineage(n, m) => Reply {
-            result: 0,
+        Ok(Fields::Lineage(n, used)) => Reply {
             first: n,
-            second: m,
-            stamp: 0,
-            sum: 0,
+            second: used,
+            ..DONE
         },
-        Answer::Version(v, stamp) => Reply {
-            result: 0,
+        Ok(Fields::Version(v, stamp)) => Reply {
             first: to_word(v),
-            second: 0,
-            stamp: stamp,
-            sum: 0,
-        },
-        Answer::Listed(n) => Reply {
-            result: 0,
-            first: n,
-            second: 0,
-            stamp: 0,
-            sum: 0,
+            stamp,
+            ..DONE
         },
     }
 }
@@ -109,11 +84,8 @@ fn form_number(form: Form) -> u32
 pub fn check_reply(mem: &[u8], t: Scans) -> Reply
     ensures { (ps : List ScanEntry) → t ≡ table_of ps → result ≡ reply_of (usability mem.now ps) }
 {
-    match check(mem, t) {
-        Checked::Fit(s) => {
-            let form = s.form;
-            encode(Answer::Number(form_number(form)))
-        }
-        Checked::Unfit => encode(Answer::Refused(Refusal::Memory)),
-    }
+    let Some(s) = check(mem, t) else {
+        return encode(Err(Refusal::Memory));
+    };
+    encode(Ok(Fields::Number(form_number(s.form))))
 }

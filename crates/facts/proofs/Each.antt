@@ -1,4 +1,4 @@
--- What `each` says: the turns of a loop that carries a flag, and what a raised flag tells of each index.
+-- What `each` says: what a raised flag tells of each index.
 use Prim.Native.Nat.{ℕ, zero, suc, ◌+◌, ◌≤◌, ◌<◌}
 use mathlib.Core.Path.{◌≡◌, refl, sym, ◌∙◌}
 use mathlib.Core.Bool.{Bool, true, false, ◌&&◌}
@@ -6,7 +6,6 @@ use mathlib.Core.List.{List, [], ◌∷◌}
 use mathlib.Core.Logic.{⊎_elim}
 use native.Mathlib.Omega.{arith}
 use native.Mathlib.Nat.{eq-or-lt_of_le, le_of_suc-le-suc}
-use native.Mathlib.Numerals.{add-one}
 use lib.Dec.{eqb}
 use lib.ListN.{length, get_or}
 use borrow.Author.Tests.{ne_eqb, le-leb}
@@ -15,23 +14,6 @@ use Rattle.loops.specs.Search.{region, all_between}
 use Rattle.loops.proofs.Search.{and_true, and_false, all_tells}
 use Rattle.loops.proofs.Region.{region_at, region_length}
 use Rattle.facts.specs.Facts.{each}
-
--- ---- a loop that carries a flag: after i of n turns it is that of the indices below i
-abbrev pub Flagged : ℕ → (ℕ → Bool) → Bool → ℕ → Type 0
-Flagged n f ok i = (i ≤ n) × (ok ≡ each i f)
-
-module _ (n : ℕ) (f : ℕ → Bool) where
-  pub flag_raised : Flagged n f true 0
-  unfolding each
-  flag_raised = (omega arith, refl)
-
-  module _ (ok : Bool) (i : ℕ) (p : Flagged n f ok i) where
-    pub flag_next : (h r : Bool) → i < n → h ≡ f i → r ≡ (ok && h) → Flagged n f r (i + 1)
-    unfolding each
-    flag_next h r l q e = (omega arith, e ∙ rw (add-one, p.1, q))
-
-    pub flag_all : n ≤ i → ok ≡ each n f
-    flag_all k = let q : i ≡ n = omega arith in p.1 ∙ rw q
 
 -- ---- what a raised flag tells
 module _ (f : ℕ → Bool) where

@@ -2,7 +2,8 @@
 -- docs/SPECIFICATION.md. Which of the two forms a call works on is the promise's to say. The shape is read from the memory, so its form and measures are tested before anything is computed from them, and a
 -- memory that is too short to hold them is too short.
 use Rattle.std.specs.Prelude.{ℕ, ◌*◌, Bool, ◌&&◌, List, leb, length, get_or}
-use Rattle.terms.specs.Measures.{Shape, within_limits, most_scans}
+use Rattle.terms.specs.Measures.{within_limits, most_scans}
+use Rattle.terms.specs.declared.Shape.{Shape}
 use Rattle.terms.specs.declared.ScanEntry.{ScanEntry}
 use Rattle.words.specs.Words.{words}
 use Rattle.layout.specs.declared.Sizes.{Sizes}

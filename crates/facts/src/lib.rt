@@ -2,6 +2,8 @@
 // pages in crate pages. The facts themselves are specs/Facts.antt. The tests over words carry their flags to the end, so that they vectorise.
 #![tactic(auto)]
 
+pub mod flags;
+
 ghost use Rattle.std.specs.Prelude.{◌≡◌, ◌&&◌, not, List, ◌≤◌, length};
 ghost use Rattle.terms.specs.declared.ScanEntry.{ScanEntry};
 ghost use Rattle.terms.specs.Measures.{most_scans};
@@ -44,10 +46,8 @@ fn opens_of(mem: &[u8], s: Sizes) -> [u32; MOST_TRANSACTIONS]
     ensures { result ≡ view_of s mem.now Opens }
 {
     let mut opens = [0; MOST_TRANSACTIONS];
-    let mut i = 0;
-    while i < MOST_TRANSACTIONS {
+    for i in 0..MOST_TRANSACTIONS {
         opens[i] = read(mem, s, Region::Opens, i);
-        i += 1;
     }
     opens
 }
@@ -67,11 +67,7 @@ pub fn opens_hold(mem: &[u8], s: Sizes) -> bool
 fn entries_used(t: Scans) -> usize
     ensures { (result ≤ length t.numbers) × (t.count ≤ most_scans → result ≡ t.count) }
 {
-    if t.count < MOST_SCANS {
-        t.count
-    } else {
-        MOST_SCANS
-    }
+    t.count.min(MOST_SCANS)
 }
 
 // The counts of the open scans: the merges and the commits made before each.
@@ -79,10 +75,8 @@ fn scan_counts_hold(mem: &[u8], s: Sizes, t: Scans) -> bool
     requires { Suffices s mem.now }
     ensures { (ps : List ScanEntry) → t ≡ table_of ps → open_count ps ≤ most_scans → result ≡ scan_counts_hold (view_of s mem.now) ps }
 {
-    let merges = t.merges;
-    let commits = t.commits;
-    let merge = at_most(merges, read(mem, s, Region::Header, HEADER_MERGES));
-    let commit = at_most(commits, read(mem, s, Region::Header, HEADER_COMMITS));
+    let merge = at_most(t.merges, read(mem, s, Region::Header, HEADER_MERGES));
+    let commit = at_most(t.commits, read(mem, s, Region::Header, HEADER_COMMITS));
     both(merge, commit)
 }
 
@@ -93,11 +87,9 @@ pub fn scans_hold(mem: &[u8], s: Sizes, t: Scans) -> bool
 {
     let given = read(mem, s, Region::Header, HEADER_SCANS);
     let last = read(mem, s, Region::Header, HEADER_STAMP);
-    let numbers = t.numbers;
-    let stamps = t.stamps;
-    let number = at_most(numbers, given);
-    let stamp = at_most(stamps, last);
+    let number = at_most(t.numbers, given);
+    let stamp = at_most(t.stamps, last);
     let counts = scan_counts_hold(mem, s, t);
-    let differ = all_differ(&numbers, entries_used(t));
+    let differ = all_differ(&t.numbers, entries_used(t));
     both(number, both(stamp, both(counts, differ)))
 }

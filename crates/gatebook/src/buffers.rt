@@ -9,11 +9,7 @@ pub fn move_down(buffer: &mut [u8], from: usize, n: usize)
     requires { from + n ≤ length buffer.old }
     ensures { take n buffer.new ≡ slice from (from + n) buffer.old }
 {
-    let mut i = 0;
-    while i < n {
-        buffer[i] = buffer[from + i];
-        i += 1;
-    }
+    buffer.copy_within(from..from + n, 0);
 }
 
 // One read behind the first `to` bytes of the buffer. It answers how many bytes came, 0 at the end of the input and where the read fails.
@@ -21,24 +17,10 @@ pub fn read_behind<R: Read>(reader: &mut R, buffer: &mut [u8], to: usize) -> usi
     requires { to ≤ length buffer.old }
     ensures { (to + result ≤ length buffer.old) × (take to buffer.new ≡ take to buffer.old) }
 {
-    match reader.read(&mut buffer[to..]) {
-        Ok(n) => n,
-        Err(_) => 0,
-    }
+    reader.read(&mut buffer[to..]).unwrap_or(0)
 }
 
-// What was handed to the writer, and whether all of it was written.
-#[derive(Clone, Copy)]
-pub struct Written {
-    pub bytes: usize,
-    pub done: bool,
-}
-
-// The first n bytes of the lines are written. Where there is nothing to write, the writer is not called.
-pub fn write_lines<W: Write>(writer: &mut W, lines: &[u8], n: usize) -> Written
-    requires { n ≤ length lines.now }
-    ensures { result.bytes ≡ n }
-{
-    let done = writer.write_all(&lines[..n]).is_ok();
-    Written { bytes: n, done }
+// Lines are written. It answers whether all of them were. Where there is nothing to write, the writer is not called.
+pub fn write_lines<W: Write>(writer: &mut W, lines: &[u8]) -> bool {
+    writer.write_all(lines).is_ok()
 }

@@ -47,16 +47,7 @@ pub fn opening() -> Course
 pub fn goes_on(c: Course) -> bool
     ensures { result ≡ goes c }
 {
-    if c.failed {
-        return false;
-    }
-    if c.read >= MOST_BYTES {
-        return false;
-    }
-    if c.sent >= MOST_BYTES {
-        return false;
-    }
-    c.on
+    !c.failed && c.read < MOST_BYTES && c.sent < MOST_BYTES && c.on
 }
 
 // One read behind the bytes that are held. There is room for one, so that nothing comes only where the input ends.
@@ -64,18 +55,12 @@ pub fn receive<R: Read>(reader: &mut R, input: &mut [u8], c: Course) -> Course
     requires { (c.held < length input.old) × (c.read < most_bytes) × (length input.old ≤ most_bytes) }
     ensures { Received c result input.old input.new }
 {
-    let held = c.held;
-    let end = held + read_behind(reader, input, held);
+    let end = c.held + read_behind(reader, input, c.held);
     Course {
-        on: c.on,
-        started: c.started,
-        columns: c.columns,
         held: end,
-        last: end == held,
-        written: c.written,
-        failed: c.failed,
-        read: c.read + (end - held),
-        sent: c.sent,
+        last: end == c.held,
+        read: c.read + (end - c.held),
+        ..c
     }
 }
 
@@ -90,8 +75,6 @@ pub fn round(
     requires { (c.written ≡ 0) × (c.held ≤ length input.old) × (room_for (length input.old) ≤ length lines.old) }
     ensures { Rounded c result (store_in mem.old scans.old) (store_in mem.new scans.new) input.old input.new lines.new }
 {
-    let held = c.held;
-    let last = c.last;
     let p = Progress {
         on: c.on,
         started: c.started,
@@ -99,20 +82,16 @@ pub fn round(
         taken: 0,
         written: 0,
     };
-    let r = answer(mem, scans, &input[..held], last, lines, p);
-    let taken = r.taken;
-    let left = held - taken;
-    move_down(input, taken, left);
+    let r = answer(mem, scans, &input[..c.held], c.last, lines, p);
+    let left = c.held - r.taken;
+    move_down(input, r.taken, left);
     Course {
         on: r.on,
         started: r.started,
         columns: r.columns,
         held: left,
-        last,
         written: r.written,
-        failed: c.failed,
-        read: c.read,
-        sent: c.sent,
+        ..c
     }
 }
 
@@ -121,17 +100,12 @@ pub fn send<W: Write>(writer: &mut W, lines: &[u8], c: Course) -> Course
     requires { (c.written ≤ length lines.now) × (c.sent < most_bytes) × (length lines.now ≤ most_bytes) }
     ensures { Sent c result }
 {
-    let written = c.written;
-    let w = write_lines(writer, lines, written);
+    let waiting = &lines[..c.written];
+    let done = write_lines(writer, waiting);
     Course {
-        on: c.on,
-        started: c.started,
-        columns: c.columns,
-        held: c.held,
-        last: c.last,
-        written: written - w.bytes,
-        failed: !w.done,
-        read: c.read,
-        sent: c.sent + w.bytes,
+        written: c.written - waiting.len(),
+        failed: !done,
+        sent: c.sent + waiting.len(),
+        ..c
     }
 }

@@ -11,8 +11,10 @@ use lib.Dec.{eqb}
 use lib.ListN.{length, length-append, get_or-append, get_or-eq_default}
 use lib.Seq.{get_or-append_seam}
 use lib.IntN.{ℤ}
-use Rattle.terms.specs.Measures.{Shape}
-use Rattle.terms.specs.declared.Answer.{Answer}
+use Rattle.terms.specs.declared.Shape.{Shape}
+use Rattle.std.specs.Prelude.{Ok}
+use Rattle.terms.specs.Answers.{Answer}
+use Rattle.terms.specs.declared.Fields.{Fields}
 use Rattle.history.specs.History.{Call, History, Row, Record, Snapshot, Version, filterb, up_to, total, rows_seen, sum_of, visible, version_of, inserted, inserted_value, row_at, seen_at, committed_by, state_of, ends, ended, last_setting, with_rows, with_tail, with_transactions, with_scans, with_merges}
 use Rattle.history.specs.Lists.{All, nil, cons}
 use Rattle.history.proofs.Lists.{by_cases, all_map, all_append, all_filterb, any_append, any_none, filterb_append}
@@ -39,7 +41,7 @@ pub record SumStays (t : Snapshot) (c : ℕ) (a : Answer) (h : History) : Type 0
 
 -- a sum by which rows are seen and what each gives
 summed : (ℕ → Bool) → (ℕ → ℤ) → List ℕ → Answer
-summed f g l = Answer.Sum (length (filterb f l)) (total g (filterb f l))
+summed f g l = Ok (Fields.Sum (length (filterb f l)) (total g (filterb f l)))
 
 total_agree : {f g : ℕ → ℤ} {l : List ℕ} → All (λ r. f r ≡ g r) l → total f l ≡ total g l
 unfolding total

@@ -9,7 +9,8 @@ use native.Mathlib.Nat.{le_trans}
 use lib.Dec.{T, eqb, eqb→eq}
 use lib.ListN.{length, length-append, get_or-append}
 use lib.IntN.{ℤ}
-use Rattle.terms.specs.Measures.{Shape, most_columns}
+use Rattle.terms.specs.Measures.{most_columns}
+use Rattle.terms.specs.declared.Shape.{Shape}
 use Rattle.history.specs.History.{Call, History, Row, Record, Content, original, any, filterb, range_of, records_of, crossings_from, Snapshot, State, Commit, Version, Dated, dated, inserted, inserted_value, row_at, version_in, sets, last_setting, version_of, visible, shown, read, settings_seen, values_seen, last_of_each, versions, seen_at, state_of, with_rows, with_tail, with_transactions, with_scans, with_merges, setting, ending}
 use Rattle.history.specs.Claims.{last_shown, VersionsRead}
 use Rattle.history.specs.Lists.{All, nil, cons, Pairs, empty, ahead}

@@ -1,7 +1,7 @@
 -- Which call works on which stored form (section 8 of docs/SPECIFICATION.md), and how the form goes along a list of calls: only an accepted move alters it. `Suited` says of a
 -- list that it lends no call a form that the call does not work on, and `StrikingSuited` that striking merges and releases leaves such a list; proofs/Striking.antt proves it.
 use Rattle.std.specs.Prelude.{Bool, true, false, List, [], ◌∷◌, T}
-use Rattle.terms.specs.Measures.{Shape}
+use Rattle.terms.specs.declared.Shape.{Shape}
 use Rattle.terms.specs.declared.Form.{Form}
 use Rattle.history.specs.History.{Call, begin, insert, update, delete, commit, abort, latest, read_at, own_read, open_scan, scan_read, sum, close, merge, release, page_cell, lineage, crossings, begin_as, keeper_at, move, History, start, Verdict, accept, refuse, verdict, tests, next}
 use Rattle.history.specs.Claims.{strike}

@@ -1,6 +1,7 @@
 -- What holds of the history after every list of calls. proofs/ has a file for each invariant, which shows that every step keeps it; `invariants` (proofs/Invariants.antt) joins them.
 use Rattle.std.specs.Prelude.{◌≡◌, Bool, true, false, List, ℕ, zero, suc, ◌+◌, ◌*◌, ◌≤◌, ◌<◌, T, length, take, ℤ}
-use Rattle.terms.specs.Measures.{Shape, range_rows, most_columns, most_transactions, most_scans, most_numbers}
+use Rattle.terms.specs.Measures.{range_rows, most_columns, most_transactions, most_scans, most_numbers}
+use Rattle.terms.specs.declared.Shape.{Shape}
 use Rattle.history.specs.History.{History, Row, Record, Commit, Snapshot, State, unknown, active, aborted, committed, original, count, is_active, is_committed, state_of, row_at, scan_at, sets, ends, records_of, merged_through, waiting_pages}
 use Rattle.history.specs.Lists.{All, Pairs}
 use Rattle.history.specs.Records.{is_original, was_set, has_original}

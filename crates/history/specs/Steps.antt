@@ -1,7 +1,8 @@
 -- What an accepted call does to the history, in nine ways and not in twenty-one calls, each with the tests that it passed as facts about numbers and states. Every call,
 -- refused or not, is such a step (`next_step`, proofs/Steps.antt), and every invariant is kept by these.
 use Rattle.std.specs.Prelude.{◌≡◌, ◌≢◌, true, not, List, [], ◌∷◌, ◌++◌, ℕ, ◌+◌, ◌*◌, ◌≤◌, ◌<◌, T, length, take, ℤ}
-use Rattle.terms.specs.Measures.{Shape, range_rows, most_transactions, most_scans, most_numbers}
+use Rattle.terms.specs.Measures.{range_rows, most_transactions, most_scans, most_numbers}
+use Rattle.terms.specs.declared.Shape.{Shape}
 use Rattle.history.specs.History.{Call, merge, History, Record, Commit, State, active, aborted, committed, Scan, Merge, snapshot_at, next_commit, ends, count, change, is_active, state_of, row_at, scan_at, stopped, range_of, records_of, merged_through, waiting_pages, after_release, seen_by, bad_mask, update_records, delete_records, with_rows, with_tail, with_transactions, with_scans, with_merges}
 use Rattle.history.specs.Lists.{All}
 

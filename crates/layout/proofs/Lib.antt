@@ -1,6 +1,5 @@
 -- Laws of the view of a memory, for the proofs of this crate and of those above it.
 pub mod Cut
-pub mod Starts
 pub mod View
 pub mod Lay
 pub mod Limits

@@ -1,14 +1,18 @@
 -- What the limits of a shape say of its sizes: the words needed fit every sum of the code, and the bytes needed are within the bound of rule 8.3.
 use Prim.Native.Nat.{ℕ, ◌+◌, ◌*◌, ◌≤◌, ◌<◌}
 use mathlib.Core.Path.{◌≡◌, refl, sym, ◌∙◌}
-use mathlib.Core.Bool.{true, false, cond}
+use mathlib.Core.Bool.{Bool, true, false, cond}
 use native.Mathlib.Omega.{arith}
 use native.Mathlib.Nat.{mul-le-mul, add-mul, mul_assoc, mul_comm}
-use Rattle.terms.specs.Measures.{Shape, within_limits, most_columns, most_ranges, most_records, most_spares, most_chunks, most_transactions, range_rows}
+use Rattle.terms.specs.Measures.{within_limits, most_columns, most_ranges, most_records, most_spares, most_chunks, most_transactions, range_rows}
+use Rattle.terms.specs.declared.Shape.{Shape}
 use Rattle.terms.specs.declared.Form.{Form}
-use Rattle.terms.specs.declared.Answer.{Answer}
+use Rattle.std.specs.Prelude.{Ok, Err}
+use Rattle.terms.specs.Answers.{Answer}
+use Rattle.terms.specs.declared.Fields.{Fields}
 use Rattle.terms.specs.declared.Refusal.{Refusal}
 use Rattle.loops.proofs.Search.{and_true, between_tells}
+use Rattle.layout.specs.declared.Sizes.{Sizes}
 use Rattle.layout.specs.Regions.{need}
 use Rattle.layout.specs.Sizes.{Proper, sizes_of, later_of, bytes_needed, bytes_allowed, bytes_answer, BytesAnswered, too_many_words}
 
@@ -52,6 +56,10 @@ need_small f p e =
     let few = later_few f (p.ranges * range_rows) (p.ranges * p.capacity) in
     omega (arith, few.0, few.1, few.2)
 
+-- the same of sizes that were computed behind the test
+pub few_words : (f : Form) (p : Shape) (s : Sizes) (ok : Bool) → s ≡ sizes_of f p → ok ≡ within_limits p → ok ≡ true → need s < too_many_words
+few_words f p s ok e w t = rw e (need_small f p (sym w ∙ t))
+
 -- 8.3: at most 4,096 bytes, and 320 for each page, 64 for each row, 64 + 4 columns for each tail record
 pub bytes_allowed_lem : (p : Shape) → bytes_needed Form.Newest p ≤ bytes_allowed (sizes_of Form.Newest p)
 unfolding bytes_needed need
@@ -64,6 +72,6 @@ pub bytes_answered : (p : Shape) {r : Answer} → r ≡ bytes_answer p → Bytes
 unfolding BytesAnswered bytes_answer
 bytes_answered p {r} a = (
   a,
-  λ n q. elim (within_limits p) as (λ b. cond b (Answer.Number (bytes_needed Form.Newest p)) (Answer.Refused Refusal.Shape) ≡ Answer.Number n → n ≤ bytes_allowed (sizes_of Form.Newest p))
+  λ n q. elim (within_limits p) as (λ b. cond b (Ok (Fields.Number (bytes_needed Form.Newest p))) (Err Refusal.Shape) ≡ Ok (Fields.Number n) → n ≤ bytes_allowed (sizes_of Form.Newest p))
       [ true ↦ λ e. let m : bytes_needed Form.Newest p ≡ n = cc in omega (arith, bytes_allowed_lem p) | false ↦ λ e. let z : ◌≡◌ {A = ℕ} 0 1 = cc in omega arith ] (sym a ∙ q),
 )

@@ -1,17 +1,22 @@
 -- Laws of a view in which one region was renewed: what every loop that writes into one region says of its turns.
-use Prim.Native.Nat.{ℕ, ◌+◌}
+use Prim.Native.Nat.{ℕ, ◌+◌, ◌≤◌}
 use mathlib.Core.Path.{◌≡◌, refl, ap, sym, ◌∙◌, fun_ext}
 use mathlib.Core.Bool.{Bool, true, false, cond}
 use mathlib.Core.List.{List}
+use native.Mathlib.Omega.{arith}
 use lib.Dec.{eqb}
-use lib.ListN.{get_or, set}
+use lib.ListN.{length, get_or, set, get_or-eq_default}
 use borrow.Author.Tests.{eqb-true}
+use Rattle.std.proofs.lemmas.List.{set_past}
+use Rattle.words.specs.Words.{words}
+use Rattle.words.proofs.Words.{length_words}
 use Rattle.loops.specs.Change.{changed}
 use Rattle.loops.proofs.Change.{changed_next, changed_none}
 use Rattle.layout.specs.declared.Region.{Region}
-use Rattle.layout.specs.Regions.{index}
-use Rattle.layout.specs.View.{View, renew, put, mark}
-use Rattle.layout.proofs.View.{renew_here}
+use Rattle.layout.specs.declared.Sizes.{Sizes}
+use Rattle.layout.specs.Regions.{index, len}
+use Rattle.layout.specs.View.{View, view_of, renew, put, mark, Suffices}
+use Rattle.layout.proofs.View.{renew_here, view_long}
 use Rattle.layout.proofs.Lay.{same_region}
 
 -- a region renewed by what it holds
@@ -58,3 +63,15 @@ module _ (k : Region) (f : ℕ → ℕ → ℕ) (at : ℕ) (v : View) where
   change_next w w' i x e q p =
       turn_put k (changed f at i (v k)) v w w' (at + i) x e p
       ∙ ap (λ (l : List ℕ). renew k l v) (changed_next f at (v k) (changed f at i (v k)) _ i x refl q refl)
+
+-- past its end a region has 0, and a word put there changes nothing
+pub past_zero : (s : Sizes) (mem : List ℕ) (k : Region) (i : ℕ) → Suffices s mem → len s k ≤ i → get_or (view_of s mem k) i 0 ≡ 0
+past_zero s mem k i h g =
+    let l : length (view_of s mem k) ≡ len s k = view_long s (words mem) (omega (arith, length_words mem)) k in
+    get_or-eq_default (view_of s mem k) 0 (omega (arith, l))
+
+pub past_same : (s : Sizes) (mem : List ℕ) (k : Region) (i v : ℕ) → Suffices s mem → len s k ≤ i → put k i v (view_of s mem) ≡ view_of s mem
+unfolding put
+past_same s mem k i v h g =
+    let l : length (view_of s mem k) ≡ len s k = view_long s (words mem) (omega (arith, length_words mem)) k in
+    ap (λ (x : List ℕ). renew k x (view_of s mem)) (set_past (view_of s mem k) i v (omega (arith, l))) ∙ sym (renew_none k (view_of s mem))

@@ -1,7 +1,7 @@
 -- The view of a store that was moved into another stored form: rule 8.12 of docs/SPECIFICATION.md. Every word of the regions that both forms have is as it was, but for
 -- the columns' word, which says the form; the regions that the first form does not have are all 0, and empty in that form.
 use Rattle.std.specs.Prelude.{replicate}
-use Rattle.terms.specs.Measures.{Shape}
+use Rattle.terms.specs.declared.Shape.{Shape}
 use Rattle.terms.specs.declared.Form.{Form}
 use Rattle.layout.specs.declared.Sizes.{Sizes}
 use Rattle.layout.specs.declared.Region.TheVariants.{Header, RowKeeper, TailKeeper, OpenKeeper}

@@ -1,7 +1,8 @@
 -- The table of regions: the number, the length and the order of each, and what follows of it: where each starts, and the words needed.
 -- A new region is a line at the end of each of `index`, `later_lens` and `all`, a case of the code's `Region`, a line of its table `lies_before` and `words_needed` (src/lib.rt), and of its proof.
 use Rattle.std.specs.Prelude.{ℕ, ◌+◌, ◌*◌, ◌-◌, ◌/◌, ◌%◌, Bool, cond, ◌||◌, List, [], ◌∷◌, ◌++◌, eqb, get_or}
-use Rattle.terms.specs.Measures.{Shape, range_rows, most_transactions}
+use Rattle.terms.specs.Measures.{range_rows, most_transactions}
+use Rattle.terms.specs.declared.Shape.{Shape}
 use Rattle.terms.specs.declared.Form.{Form}
 use Rattle.layout.specs.declared.Sizes.{Sizes}
 use Rattle.layout.specs.declared.Region.{Region}

@@ -1,8 +1,11 @@
 -- The sizes that a shape makes in a stored form, and the bytes that it needs.
 use Rattle.std.specs.Prelude.{ℕ, ◌+◌, ◌*◌, ◌^◌, ◌≤◌, ◌≡◌, cond}
-use Rattle.terms.specs.Measures.{Shape, range_rows, most_columns, most_ranges, most_records, most_spares, most_transactions, within_limits, most_pages}
+use Rattle.terms.specs.Measures.{range_rows, most_columns, most_ranges, most_records, most_spares, most_transactions, within_limits, most_pages}
+use Rattle.terms.specs.declared.Shape.{Shape}
 use Rattle.terms.specs.declared.Form.{Form}
-use Rattle.terms.specs.declared.Answer.{Answer}
+use Rattle.std.specs.Prelude.{Ok, Err}
+use Rattle.terms.specs.Answers.{Answer}
+use Rattle.terms.specs.declared.Fields.{Fields}
 use Rattle.terms.specs.declared.Refusal.{Refusal}
 use Rattle.layout.specs.declared.Sizes.{Sizes}
 use Rattle.layout.specs.declared.Later.{Later}
@@ -76,8 +79,8 @@ abbrev pub bytes_allowed : Sizes → ℕ
 bytes_allowed s = 4096 + 320 * s.pages + 64 * s.rows + (64 + 4 * s.columns) * s.slots
 
 unfoldable pub bytes_answer : Shape → Answer
-bytes_answer p = cond (within_limits p) (Answer.Number (bytes_needed Form.Newest p)) (Answer.Refused Refusal.Shape)
+bytes_answer p = cond (within_limits p) (Ok (Fields.Number (bytes_needed Form.Newest p))) (Err Refusal.Shape)
 
 -- what the call that answers the bytes needed, in the newest form, promises: the answer, and that the bytes answered are within the bound
 unfoldable pub BytesAnswered : Shape → Answer → Type 0
-BytesAnswered p r = (r ≡ bytes_answer p) × ((n : ℕ) → r ≡ Answer.Number n → n ≤ bytes_allowed (sizes_of Form.Newest p))
+BytesAnswered p r = (r ≡ bytes_answer p) × ((n : ℕ) → r ≡ Ok (Fields.Number n) → n ≤ bytes_allowed (sizes_of Form.Newest p))

@@ -11,13 +11,13 @@ ghost use Rattle.layout.specs.Regions.{index, lens, base, need, form_known, form
 ghost use Rattle.terms.specs.declared.Form.{Form};
 ghost use Rattle.layout.specs.declared.Sizes.{Sizes};
 ghost use Rattle.layout.specs.Starts.{behind, behind_all, older_before, words_before};
-ghost use Rattle.layout.specs.Sizes.{shape_of, sizes_of, later_of, in_form, BytesAnswered};
+ghost use Rattle.layout.specs.Sizes.{sizes_of, later_of, in_form, BytesAnswered};
 
 use loops::{and_between, either};
 use terms::limits::{
     MOST_COLUMNS, MOST_RANGES, MOST_RECORDS, MOST_SPARES, MOST_TRANSACTIONS, RANGE_ROWS,
 };
-use terms::{Answer, Form, Refusal};
+use terms::{Answer, Fields, Form, Refusal, Shape};
 
 // The regions in the order in which they lie. A new one comes last, so that the others stay where they are.
 #[derive(Clone, Copy)]
@@ -141,13 +141,13 @@ fn times(a: usize, b: usize) -> usize
 }
 
 // Whether each measure lies within its limits.
-pub fn within_limits(columns: u32, ranges: u32, capacity: u32, spares: u32) -> bool
-    ensures { result ≡ within_limits (shape_of columns ranges capacity spares) }
+pub fn within_limits(shape: Shape) -> bool
+    ensures { result ≡ within_limits shape }
 {
-    let c = and_between(true, 1, MOST_COLUMNS as u32, columns);
-    let r = and_between(c, 1, MOST_RANGES, ranges);
-    let t = and_between(r, 1, MOST_RECORDS, capacity);
-    and_between(t, 0, MOST_SPARES, spares)
+    let c = and_between(true, 1, MOST_COLUMNS as u32, shape.columns);
+    let r = and_between(c, 1, MOST_RANGES, shape.ranges);
+    let t = and_between(r, 1, MOST_RECORDS, shape.capacity);
+    and_between(t, 0, MOST_SPARES, shape.spares)
 }
 
 // The lengths of the regions that the first form does not have.
@@ -161,36 +161,36 @@ fn later_of(form: Form, rows: usize, slots: usize) -> Later
             opens: 0,
         },
         Form::Newest => Later {
-            rows: rows,
-            slots: slots,
+            rows,
+            slots,
             opens: MOST_TRANSACTIONS,
         },
     }
 }
 
 // The sizes that a shape makes in a form.
-pub fn sizes_of(form: Form, columns: u32, ranges: u32, capacity: u32, spares: u32) -> Sizes
-    requires { within_limits (shape_of columns ranges capacity spares) ≡ true }
-    ensures { result ≡ sizes_of form (shape_of columns ranges capacity spares) }
+pub fn sizes_of(form: Form, shape: Shape) -> Sizes
+    requires { within_limits shape ≡ true }
+    ensures { result ≡ sizes_of form shape }
 {
-    let c = columns as usize;
-    let r = ranges as usize;
-    let t = capacity as usize;
-    let x = spares as usize;
-    let slots = times(r, t);
-    let chunks = times(c, r);
-    let rows = r * RANGE_ROWS;
+    let columns = shape.columns as usize;
+    let ranges = shape.ranges as usize;
+    let capacity = shape.capacity as usize;
+    let spares = shape.spares as usize;
+    let slots = times(ranges, capacity);
+    let chunks = times(columns, ranges);
+    let rows = ranges * RANGE_ROWS;
     Sizes {
-        form: form,
-        columns: c,
-        ranges: r,
-        capacity: t,
-        spares: x,
-        rows: rows,
-        slots: slots,
-        values: times(slots, c),
-        chunks: chunks,
-        pages: chunks + x,
+        form,
+        columns,
+        ranges,
+        capacity,
+        spares,
+        rows,
+        slots,
+        values: times(slots, columns),
+        chunks,
+        pages: chunks + spares,
         later: later_of(form, rows, slots),
     }
 }
@@ -200,17 +200,9 @@ pub fn in_form(s: Sizes, form: Form) -> Sizes
     ensures { result ≡ in_form form s }
 {
     Sizes {
-        form: form,
-        columns: s.columns,
-        ranges: s.ranges,
-        capacity: s.capacity,
-        spares: s.spares,
-        rows: s.rows,
-        slots: s.slots,
-        values: s.values,
-        chunks: s.chunks,
-        pages: s.pages,
+        form,
         later: later_of(form, s.rows, s.slots),
+        ..s
     }
 }
 
@@ -298,8 +290,8 @@ fn behind_all(rows: usize, slots: usize) -> Before
         chunks: 1,
         pages: PAGE_WORDS,
         later: Later {
-            rows: rows,
-            slots: slots,
+            rows,
+            slots,
             opens: 0,
         },
     }
@@ -369,6 +361,7 @@ fn start(s: Sizes, k: Region) -> usize
 }
 
 // The word at which a region starts.
+#[tactic(auto, unfolding(crate::specs::Regions::need, crate::specs::Regions::base))]
 pub fn base(s: Sizes, k: Region) -> usize
     requires { need s < 2 ^ 62 }
     ensures { result ≡ base s k }
@@ -377,6 +370,7 @@ pub fn base(s: Sizes, k: Region) -> usize
 }
 
 // The words that the regions take.
+#[tactic(auto, unfolding(crate::specs::Regions::need))]
 pub fn words_needed(s: Sizes) -> usize
     requires { need s < 2 ^ 62 }
     ensures { result ≡ need s }
@@ -385,14 +379,12 @@ pub fn words_needed(s: Sizes) -> usize
 }
 
 // The bytes that a shape needs in the newest form, within the bound of rule 8.3 of docs/SPECIFICATION.md.
-pub fn bytes_needed(columns: u32, ranges: u32, capacity: u32, spares: u32) -> Answer
-    ensures { BytesAnswered (shape_of columns ranges capacity spares) result }
+pub fn bytes_needed(shape: Shape) -> Answer
+    ensures { BytesAnswered shape result }
 {
-    if within_limits(columns, ranges, capacity, spares) {
-        let s = sizes_of(Form::Newest, columns, ranges, capacity, spares);
-        let n = words_needed(s);
-        Answer::Number((n * 4) as u32)
-    } else {
-        Answer::Refused(Refusal::Shape)
+    if !within_limits(shape) {
+        return Err(Refusal::Shape);
     }
+    let n = words_needed(sizes_of(Form::Newest, shape));
+    Ok(Fields::Number((n * 4) as u32))
 }

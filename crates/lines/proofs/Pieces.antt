@@ -1,11 +1,11 @@
 -- A line that was written from the buffer's start, and the fields of stamps.
-use Prim.Native.Nat.{ℕ, ◌+◌, ◌≤◌, ◌<◌, min}
+use Prim.Native.Nat.{ℕ, ◌+◌, ◌≤◌, ◌<◌}
 use mathlib.Core.Path.{◌≡◌, refl, ap, sym, ◌∙◌}
 use mathlib.Core.List.{List, [], ◌∷◌, ◌++◌, append_assoc, append-nil}
-use native.Mathlib.Omega.{arith, min_cases}
+use native.Mathlib.Omega.{arith}
 use native.Mathlib.Numerals.{add-one}
-use lib.ListN.{length, take, get_or, length-take}
-use lib.Seq.{take-suc, take-take, take_all}
+use lib.ListN.{length, take, get_or}
+use lib.Seq.{take-suc}
 use Rattle.decimal.specs.Decimal.{decimal, field}
 use Rattle.decimal.specs.Written.{line_bytes, Written}
 use Rattle.lines.specs.Lines.{fields}
@@ -23,8 +23,3 @@ fields_append (s ∷ l) k = ap (λ (t : List ℕ). field (decimal s) ++ t) (fiel
 pub fields_next : (l : List ℕ) (i : ℕ) → i < length l → fields (take i l) ++ field (decimal (get_or l i 0)) ≡ fields (take (i + 1) l)
 unfolding fields
 fields_next l i h = rw (add-one i, take-suc l i 0, fields_append, append-nil)
-
--- the first stamps of those that were lent
-pub take_least : (n m : ℕ) (l : List ℕ) → take (min n m) l ≡ take n (take m l)
-take_least n m l =
-    min_cases n m _ (λ h e. rw e (sym (take-take n m l h))) (λ h e. rw e (sym (take_all n (take m l) (simp length-take (omega arith)))))

@@ -1,81 +1,70 @@
 // The lines that `gatebook` prints, as bytes in a buffer that is lent: a command's byte and its answer, or the answer to the shape.
 #![tactic(auto)]
 
-ghost use Rattle.std.specs.Prelude.{◌≡◌, ◌+◌, ◌*◌, ◌≤◌, min, take};
-ghost use Rattle.terms.specs.Measures.{lent_stamps};
+ghost use Rattle.std.specs.Prelude.{◌+◌, ◌*◌, ◌≤◌, length, take};
 ghost use Rattle.decimal.specs.Written.{line_bytes, natural_field, Written};
-ghost use Rattle.lines.specs.Lines.{fields, outcome, line, shape_line};
-ghost use Rattle.lines.specs.Written.{outcome_bytes, Rendered};
+ghost use Rattle.lines.specs.Lines.{fields, after_ok, outcome, line, shape_line};
+ghost use Rattle.lines.specs.Written.{fields_bytes, outcome_bytes, Rendered};
 
 use decimal::{LINE_BYTES, digit, put, put_integer, put_natural};
 use terms::limits::LENT_STAMPS;
-use terms::{Answer, number};
+use terms::{Answer, Fields, number};
 
-fn least(a: usize, b: usize) -> usize
-    ensures { result ≡ min a b }
-{
-    if a < b { a } else { b }
-}
-
-// The first n stamps, a field for each.
-fn put_stamps(out: &mut [u8; LINE_BYTES], at: usize, stamps: [u32; LENT_STAMPS], n: usize) -> usize
-    requires { (n ≤ lent_stamps) × (at + n * natural_field ≤ line_bytes) }
-    ensures { Written out.old out.new at (fields (take n stamps)) result × (result ≤ at + n * natural_field) }
+// Stamps, a field for each.
+fn put_stamps(out: &mut [u8; LINE_BYTES], at: usize, stamps: &[u32]) -> usize
+    requires { at + length stamps.now * natural_field ≤ line_bytes }
+    ensures { Written out.old out.new at (fields stamps.now) result × (result ≤ at + length stamps.now * natural_field) }
 {
     let mut next = at;
-    let mut i = 0;
-    while i < n {
-        next = put_natural(out, next, stamps[i]);
-        i += 1;
+    for stamp in stamps {
+        next = put_natural(out, next, *stamp);
     }
     next
 }
 
-// What a line says of an answer, behind the command's byte or the word shape. The call was lent the first `lent` places of the stamps.
-fn put_outcome(
-    out: &mut [u8; LINE_BYTES],
-    at: usize,
-    answer: Answer,
-    stamps: [u32; LENT_STAMPS],
-    lent: usize,
-) -> usize
-    requires { (lent ≤ lent_stamps) × (at + outcome_bytes lent ≤ line_bytes) }
-    ensures { Written out.old out.new at (outcome answer (take lent stamps)) result × (result ≤ at + outcome_bytes lent) }
+// The fields of an answer, of which a list's stamps stand in the slice that the call was lent.
+fn put_fields(out: &mut [u8; LINE_BYTES], at: usize, told: Fields, stamps: &[u32]) -> usize
+    requires { at + fields_bytes (length stamps.now) ≤ line_bytes }
+    ensures { Written out.old out.new at (after_ok told stamps.now) result × (result ≤ at + fields_bytes (length stamps.now)) }
+{
+    match told {
+        Fields::Done => at,
+        Fields::Number(n) => put_natural(out, at, n),
+        Fields::Value(v) => put_integer(out, at, v as i64),
+        Fields::None => put(out, at, b" none"),
+        Fields::Sum(n, sum) => {
+            let next = put_natural(out, at, n);
+            put_integer(out, next, sum)
+        }
+        Fields::Lineage(n, used) => {
+            let next = put_natural(out, at, n);
+            put_natural(out, next, used)
+        }
+        Fields::Version(v, stamp) => {
+            let next = put_integer(out, at, v as i64);
+            put_natural(out, next, stamp)
+        }
+        Fields::Listed(n) => {
+            let next = put_natural(out, at, n);
+            let listed = (n as usize).min(stamps.len());
+            put_stamps(out, next, &stamps[..listed])
+        }
+    }
+}
+
+// What a line says of an answer, behind the command's byte or the word shape.
+fn put_outcome(out: &mut [u8; LINE_BYTES], at: usize, answer: Answer, stamps: &[u32]) -> usize
+    requires { at + outcome_bytes (length stamps.now) ≤ line_bytes }
+    ensures { Written out.old out.new at (outcome answer stamps.now) result × (result ≤ at + outcome_bytes (length stamps.now)) }
 {
     match answer {
-        Answer::Refused(why) => {
+        Ok(told) => {
+            let next = put(out, at, b" ok");
+            put_fields(out, next, told, stamps)
+        }
+        Err(why) => {
             let next = put(out, at, b" no");
             put_natural(out, next, number(why))
-        }
-        Answer::Done => put(out, at, b" ok"),
-        Answer::Number(n) => {
-            let next = put(out, at, b" ok");
-            put_natural(out, next, n)
-        }
-        Answer::Value(v) => {
-            let next = put(out, at, b" ok");
-            put_integer(out, next, v as i64)
-        }
-        Answer::None => put(out, at, b" ok none"),
-        Answer::Sum(n, sum) => {
-            let next = put(out, at, b" ok");
-            let last = put_natural(out, next, n);
-            put_integer(out, last, sum)
-        }
-        Answer::Lineage(n, used) => {
-            let next = put(out, at, b" ok");
-            let last = put_natural(out, next, n);
-            put_natural(out, last, used)
-        }
-        Answer::Version(v, stamp) => {
-            let next = put(out, at, b" ok");
-            let last = put_integer(out, next, v as i64);
-            put_natural(out, last, stamp)
-        }
-        Answer::Listed(n) => {
-            let next = put(out, at, b" ok");
-            let last = put_natural(out, next, n);
-            put_stamps(out, last, stamps, least(n as usize, lent))
         }
     }
 }
@@ -94,7 +83,8 @@ pub fn render_line(
     let first = digit(byte as u64 / 16);
     let second = digit(byte as u64 % 16);
     let start = put(out, 0, &[first, second]);
-    let end = put_outcome(out, start, answer, stamps, least(lent, LENT_STAMPS));
+    let places = lent.min(stamps.len());
+    let end = put_outcome(out, start, answer, &stamps[..places]);
     put(out, end, b"\n")
 }
 
@@ -103,6 +93,6 @@ pub fn render_shape(out: &mut [u8; LINE_BYTES], answer: Answer) -> usize
     ensures { Rendered out.old out.new (shape_line answer) result }
 {
     let start = put(out, 0, b"shape");
-    let end = put_outcome(out, start, answer, [0; LENT_STAMPS], 0);
+    let end = put_outcome(out, start, answer, &[]);
     put(out, end, b"\n")
 }

@@ -6,8 +6,10 @@ use mathlib.Core.List.{List, [], ◌∷◌, ◌++◌}
 use lib.ListN.{length}
 use lib.Seq.{sets}
 use lib.IntN.{ℤ}
-use Rattle.terms.specs.Measures.{Shape}
-use Rattle.terms.specs.declared.Answer.{Answer}
+use Rattle.terms.specs.declared.Shape.{Shape}
+use Rattle.std.specs.Prelude.{Ok, Err}
+use Rattle.terms.specs.Answers.{Answer}
+use Rattle.terms.specs.declared.Fields.{Fields}
 use Rattle.terms.specs.declared.Refusal.{Refusal}
 use Rattle.layout.specs.declared.Sizes.{Sizes}
 use Rattle.layout.specs.View.{View, view_of}
@@ -21,8 +23,10 @@ use Rattle.model.specs.Calls.{tests_in, reply_in, act_in, entries_after, stamps_
 use Rattle.model.specs.Preconditions.{shape_in}
 use Rattle.crossing.specs.Steps.{listed_in, ListsAll}
 use Rattle.promise.specs.Promise.{GivesBy, kept}
-use Rattle.admission.specs.declared.Admission.{Admission}
-use Rattle.admission.specs.declared.Tested.{Tested}
+use Rattle.std.specs.Prelude.{Ok, Err}
+use Rattle.terms.specs.declared.Refusal.{Refusal}
+use Rattle.std.specs.Prelude.{Ok, Err}
+use Rattle.terms.specs.declared.Refusal.{Refusal}
 use Rattle.admission.specs.Admitted.{Admits, every_form}
 use Rattle.admission.specs.Tested.{Says}
 use Rattle.admission.proofs.Served.{FitBytes, unfit_gives, read_gives}
@@ -48,9 +52,9 @@ accept_first (t ∷ ts) us =
     by_test (λ b. cond b (refuse t.refusal) (verdict ts) ≡ accept → cond b (refuse t.refusal) (verdict (ts ++ us)) ≡ verdict us) t.fails (λ _ e. clash (cc)) (λ _ e. accept_first ts us e)
 
 -- ---- the call
-pub unfit_listing : (e : Admission) (m : List ℕ) (t : Scans) (r c : ℕ) (mark : ℤ) (from to : ℕ) (stamps : List ℕ) → e ≡ Admission.Unfit → Admits every_form e m t
-    → GivesBy t m (Call.crossings r c mark from to stamps) (given (Answer.Refused Refusal.Memory) stamps) m kept
-unfit_listing e m t r c mark from to stamps f h = unfit_gives e m t (Call.crossings r c mark from to stamps) f h
+pub unfit_listing : (m : List ℕ) (t : Scans) (r c : ℕ) (mark : ℤ) (from to : ℕ) (stamps : List ℕ) (x : Refusal) → Admits every_form (Err x) m t
+    → GivesBy t m (Call.crossings r c mark from to stamps) (given (Err x) stamps) m kept
+unfit_listing m t r c mark from to stamps x h = unfit_gives m t (Call.crossings r c mark from to stamps) x h
 
 module _ (s : Sizes) (m : List ℕ) (r c : ℕ) (mark : ℤ) (from to : ℕ) (stamps : List ℕ) where
   abbrev asked : Call
@@ -62,26 +66,25 @@ module _ (s : Sizes) (m : List ℕ) (r c : ℕ) (mark : ℤ) (from to : ℕ) (st
   abbrev span : List Test
   span = span_tests (shape_in s) (view_of s m) r c from to
 
-  module _ (d : Tested) (said : Says d (verdict (span_tests (shape_in s) (view_of s m) r c from to))) where
-    -- one of the first tests failed
-    pub span_fails : (x : Refusal) → d ≡ Tested.Failed x → Outcomes s m asked (Answer.Refused x) stamps
-    unfolding Outcomes say stamps_next tests_in answer_if stamps_if
-    span_fails x g = λ ps. let w = refuse_first span (Refusal.List when outnumber found stamps ∷ []) x (rw g at said) in (rw w, rw w)
+  -- one of the first tests failed
+  pub span_fails : (x : Refusal) → Says (Err x) (verdict span) → Outcomes s m asked (Err x) stamps
+  unfolding Outcomes say stamps_next tests_in answer_if stamps_if
+  span_fails x said = λ ps. let w = refuse_first span (Refusal.List when outnumber found stamps ∷ []) x said in (rw w, rw w)
 
-    -- they were passed, and the crossings are listed, or too many
-    pub listing : (j : ℕ) → d ≡ Tested.Passed j → (z : ℤ) → z ≡ mark → (a : Answer) (out : List ℕ) → ListsAll (crossings_in (shape_in s) (view_of s m) r c z from to) a stamps out
-        → Outcomes s m asked a out
-    unfolding Outcomes say stamps_next tests_in reply_in stamps_in answer_if stamps_if verdict
-    listing j g z e a out l = λ ps.
-        let w = accept_first span (Refusal.List when outnumber found stamps ∷ []) (rw g at said) in
-        rw (l.answer, l.written, e, w)
-        (by_test (λ b.
-        (cond b (Answer.Refused Refusal.List) (Answer.Listed (length found)) ≡ answer_if (cond b (refuse Refusal.List) accept) (Answer.Listed (length found)))
-        × (cond b stamps (sets stamps 0 found) ≡ stamps_if (cond b (refuse Refusal.List) accept) stamps (sets stamps 0 found)))
-        (outnumber found stamps) (λ _. (refl, refl)) (λ _. (refl, refl)))
+  -- they were passed, and the crossings are listed, or too many
+  pub listing : (j : ℕ) → Says (Ok j) (verdict span) → (z : ℤ) → z ≡ mark → (a : Answer) (out : List ℕ) → ListsAll (crossings_in (shape_in s) (view_of s m) r c z from to) a stamps out
+      → Outcomes s m asked a out
+  unfolding Outcomes say stamps_next tests_in reply_in stamps_in answer_if stamps_if verdict
+  listing j said z e a out l = λ ps.
+      let w = accept_first span (Refusal.List when outnumber found stamps ∷ []) said in
+      rw (l.answer, l.written, e, w)
+      (by_test (λ b.
+      (cond b (Err Refusal.List) (Ok (Fields.Listed (length found))) ≡ answer_if (cond b (refuse Refusal.List) accept) (Ok (Fields.Listed (length found))))
+      × (cond b stamps (sets stamps 0 found) ≡ stamps_if (cond b (refuse Refusal.List) accept) stamps (sets stamps 0 found)))
+      (outnumber found stamps) (λ _. (refl, refl)) (λ _. (refl, refl)))
 
-  module _ (e : Admission) (t : Scans) where
-    pub fit_listing : (n : ℕ) → e ≡ Admission.Fit s n → Admits every_form e m t → FitBytes m → (z : ℤ) → z ≡ mark → (a : Answer) (out : List ℕ) → Outcomes s m (Call.crossings r c z from to stamps) a out
+  module _ (t : Scans) where
+    pub fit_listing : (n : ℕ) → Admits every_form (Ok (s, n)) m t → FitBytes m → (z : ℤ) → z ≡ mark → (a : Answer) (out : List ℕ) → Outcomes s m (Call.crossings r c z from to stamps) a out
         → GivesBy t m (Call.crossings r c mark from to stamps) (given a out) m kept
     unfolding Outcomes act_in entries_after
-    fit_listing n f h b z q a out o = read_gives e s n m t f asked h refl a out b (λ ps. (refl, refl)) (rw q at o)
+    fit_listing n h b z q a out o = read_gives s n m t asked h refl a out b (λ ps. (refl, refl)) (rw q at o)

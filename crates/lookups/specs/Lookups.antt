@@ -1,10 +1,11 @@
 -- What the tests of the reading calls share and find.
 use Rattle.std.specs.Prelude.{ℕ, ◌≤◌, ◌<◌, ◌≡◌, List, [], ◌∷◌}
-use Rattle.terms.specs.Measures.{Shape, most_scans}
+use Rattle.terms.specs.Measures.{most_scans}
+use Rattle.terms.specs.declared.Shape.{Shape}
 use Rattle.terms.specs.declared.ScanEntry.{ScanEntry}
-use Rattle.terms.specs.declared.Answer.{Answer}
+use Rattle.terms.specs.Answers.{Answer}
 use Rattle.terms.specs.declared.Refusal.{Refusal}
-use Rattle.loops.specs.declared.Found.{Found}
+use Rattle.std.specs.Prelude.{Some}
 use Rattle.layout.specs.declared.Sizes.{Sizes}
 use Rattle.layout.specs.View.{View, rows_given, view_of}
 use Rattle.history.specs.History.{Call, Test, ◌when◌, no_column, range_of}
@@ -35,4 +36,4 @@ Outcomes s m c r out = (ps : List ScanEntry) → (r ≡ say (shape_in s) (view_o
 
 -- p is the entry of scan k in every list that the table stands for and that a usable store may have, if entry j is that of scan k
 unfoldable pub IsScan : Scans → ℕ → ℕ → ScanEntry → Type 0
-IsScan t k j p = find_in t k ≡ Found.At j → (ps : List ScanEntry) → t ≡ table_of ps → open_count ps ≤ most_scans → p ≡ scan_entry ps k
+IsScan t k j p = find_in t k ≡ Some j → (ps : List ScanEntry) → t ≡ table_of ps → open_count ps ≤ most_scans → p ≡ scan_entry ps k

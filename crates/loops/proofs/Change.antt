@@ -18,9 +18,6 @@ module _ (f : ℕ → ℕ → ℕ) (at : ℕ) (l : List ℕ) where
   unfolding changed
   changed_next w w' i x e q s = rw (s, add-one, e, q)
 
-  pub changed_all : (w : List ℕ) (i n : ℕ) → i ≤ n → n ≤ i → w ≡ changed f at i l → w ≡ changed f at n l
-  changed_all w i n h k e = let q : i ≡ n = omega arith in e ∙ rw q
-
   pub changed_length : (n : ℕ) → length (changed f at n l) ≡ length l
   unfolding changed
   changed_length zero = refl

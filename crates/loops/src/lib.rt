@@ -2,7 +2,7 @@
 // function of the list of the words that it looks at.
 #![tactic(auto)]
 
-ghost use Rattle.std.specs.Prelude.{◌≡◌, ◌+◌, ◌*◌, ◌<◌, ◌≤◌, ◌&&◌, ◌||◌, ◌⊎◌, length, if◌then◌else◌, nat_le, nat_lt};
+ghost use Rattle.std.specs.Prelude.{◌≡◌, ◌+◌, ◌*◌, ◌<◌, ◌≤◌, ◌&&◌, ◌||◌, ◌⊎◌, length, if◌then◌else◌, nat_lt};
 ghost use Rattle.terms.specs.Measures.{between};
 ghost use Rattle.words.specs.Words.{words};
 ghost use Rattle.loops.specs.Change.{filled, numbered, copied, marked};
@@ -11,53 +11,48 @@ ghost use Rattle.loops.specs.Search.{region, turned, all_between, first_at};
 use words::{get, of_word, put};
 
 // The n words from `at` become v.
+#[tactic(auto, using(crate::proofs::Change::changed_none, crate::proofs::Change::changed_next))]
 pub fn fill(mem: &mut [u8], at: usize, n: usize, v: u32)
     requires { (at + n) * 4 ≤ length mem.old }
     ensures { words mem.new ≡ filled at n v (words mem.old) }
 {
-    let mut i = 0;
-    while i < n {
+    for i in 0..n {
         put(mem, at + i, v);
-        i += 1;
     }
 }
 
 // The n words from `at` become 0, 1, 2 and so on.
+#[tactic(auto, using(crate::proofs::Change::changed_none, crate::proofs::Change::changed_next))]
 pub fn count_up(mem: &mut [u8], at: usize, n: usize)
     requires { ((at + n) * 4 ≤ length mem.old) × (n ≤ 4294967296) }
     ensures { words mem.new ≡ numbered at n (words mem.old) }
 {
-    let mut i = 0;
-    while i < n {
+    for i in 0..n {
         put(mem, at + i, i as u32);
-        i += 1;
     }
 }
 
 // The n words from `from` go to those from `to`. The two do not overlap, so that no word is read that was written.
+#[tactic(auto, using(crate::proofs::Change::changed_none, crate::proofs::Change::copied_next))]
 pub fn copy(mem: &mut [u8], from: usize, n: usize, to: usize)
     requires n_in_bounds { ((from + n) * 4 ≤ length mem.old) × ((to + n) * 4 ≤ length mem.old) }
     requires fact { (from + n ≤ to) ⊎ (to + n ≤ from) }
     ensures { words mem.new ≡ copied (words mem.old) from n to (words mem.old) }
 {
-    let mut i = 0;
-    while i < n {
+    for i in 0..n {
         let v = get(mem, from + i);
         put(mem, to + i, v);
-        i += 1;
     }
 }
 
 // The first n words of another slice.
+#[tactic(auto, using(crate::proofs::Change::changed_none, crate::proofs::Change::changed_next))]
 pub fn copy_from(from: &[u8], n: usize, to: &mut [u8])
     requires { (n * 4 ≤ length from.now) × (n * 4 ≤ length to.old) }
     ensures { words to.new ≡ copied (words from.now) 0 n 0 (words to.old) }
 {
-    let mut i = 0;
-    while i < n {
-        let v = get(from, i);
-        put(to, i, v);
-        i += 1;
+    for i in 0..n {
+        put(to, i, get(from, i));
     }
 }
 
@@ -65,14 +60,14 @@ pub fn copy_from(from: &[u8], n: usize, to: &mut [u8])
 pub fn both(a: bool, b: bool) -> bool
     ensures { result ≡ (a && b) }
 {
-    if a { b } else { false }
+    a & b
 }
 
 // One of two flags at least.
 pub fn either(a: bool, b: bool) -> bool
     ensures { result ≡ (a || b) }
 {
-    if a { true } else { b }
+    a | b
 }
 
 // v where the flag is up, old elsewhere.
@@ -83,40 +78,23 @@ pub fn select(flag: bool, v: u32, old: u32) -> u32
 }
 
 // v at word to + i for each i below n whose word keys + i is key. Each turn stores, so that there is no branch and the loop vectorises.
+#[tactic(auto, using(crate::proofs::Change::changed_none, crate::proofs::Change::marked_next))]
 pub fn mark(mem: &mut [u8], keys: usize, n: usize, key: u32, to: usize, v: u32)
     requires n_in_bounds { ((keys + n) * 4 ≤ length mem.old) × ((to + n) * 4 ≤ length mem.old) }
     requires fact { (keys + n ≤ to) ⊎ (to + n ≤ keys) }
     ensures { words mem.new ≡ marked (words mem.old) keys n key to v (words mem.old) }
 {
-    let mut i = 0;
-    while i < n {
-        let k = get(mem, keys + i);
-        let old = get(mem, to + i);
-        let w = select(k == key, v, old);
+    for i in 0..n {
+        let w = select(get(mem, keys + i) == key, v, get(mem, to + i));
         put(mem, to + i, w);
-        i += 1;
     }
-}
-
-// A flag that stays up only if w is at least low.
-fn and_least(ok: bool, low: u32, w: u32) -> bool
-    ensures { result ≡ (ok && nat_le low w) }
-{
-    if w < low { false } else { ok }
-}
-
-// A flag that stays up only if w is at most high.
-fn and_most(ok: bool, high: u32, w: u32) -> bool
-    ensures { result ≡ (ok && nat_le w high) }
-{
-    if w > high { false } else { ok }
 }
 
 // A flag that stays up only if w is from low to high.
 pub fn and_between(ok: bool, low: u32, high: u32, w: u32) -> bool
     ensures { result ≡ (ok && between low high w) }
 {
-    and_most(and_least(ok, low, w), high, w)
+    ok & (low <= w) & (w <= high)
 }
 
 // Whether a is above b, each with its highest bit turned: as signed numbers, which SSE2 compares in one step where unsigned ones take two.
@@ -130,7 +108,7 @@ fn above(a: u32, b: u32) -> bool
 fn flip_sign(w: u32) -> u32
     ensures { result ≡ turned w }
 {
-    std::num::wrapping_add_u32(w, 0x8000_0000)
+    w.wrapping_add(0x8000_0000)
 }
 
 // A flag that stays up only if w is from low to low + span, where these are turned. What is left of a word below low wraps to more than the span, so that one
@@ -138,11 +116,7 @@ fn flip_sign(w: u32) -> u32
 fn and_within(ok: bool, low: u32, span: u32, w: u32) -> bool
     ensures { turned low + turned span < 4294967296 → result ≡ (ok && between (turned low) (turned low + turned span) w) }
 {
-    if above(std::num::wrapping_sub_u32(w, low), span) {
-        false
-    } else {
-        ok
-    }
+    ok & !above(w.wrapping_sub(low), span)
 }
 
 // Whether each of the n words from `at` is from low to high. One flag is carried to the end: a loop with an early exit does not vectorise.
@@ -156,32 +130,22 @@ pub fn all_between(mem: &[u8], at: usize, n: usize, low: u32, high: u32) -> bool
     let first = flip_sign(low);
     let span = flip_sign(high - low);
     let mut ok = true;
-    let mut i = 0;
-    while i < n {
+    for i in 0..n {
         ok = and_within(ok, first, span, get(mem, at + i));
-        i += 1;
     }
     ok
 }
 
-// Where a search ended.
-#[derive(Clone, Copy)]
-pub enum Found {
-    At(usize),
-    Nothing,
-}
-
 // The first index of key among the n words from `at`, counted from `at`.
-pub fn find(mem: &[u8], at: usize, n: usize, key: u32) -> Found
+#[tactic(auto, using(crate::proofs::Search::find_stop))]
+pub fn find(mem: &[u8], at: usize, n: usize, key: u32) -> Option<usize>
     requires { (at + n) * 4 ≤ length mem.now }
     ensures { result ≡ first_at key 0 (region (words mem.now) at n) }
 {
-    let mut i = 0;
-    while i < n {
+    for i in 0..n {
         if get(mem, at + i) == key {
-            return Found::At(i);
+            return Some(i);
         }
-        i += 1;
     }
-    Found::Nothing
+    None
 }

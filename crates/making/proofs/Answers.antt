@@ -7,8 +7,10 @@ use lib.ListN.{length, take}
 use lib.Seq.{length-take-le}
 use borrow.Author.Tests.{le-leb, lt-leb}
 use Rattle.model.specs.Writing.{made_view}
-use Rattle.terms.specs.Measures.{Shape, within_limits, most_scans}
-use Rattle.terms.specs.declared.Answer.{Answer}
+use Rattle.terms.specs.Measures.{within_limits, most_scans}
+use Rattle.terms.specs.declared.Shape.{Shape}
+use Rattle.std.specs.Prelude.{Ok, Err}
+use Rattle.terms.specs.declared.Fields.{Fields}
 use Rattle.terms.specs.declared.Form.{Form}
 use Rattle.terms.specs.declared.Refusal.{Refusal}
 use Rattle.layout.specs.Regions.{need}
@@ -21,13 +23,13 @@ use Rattle.making.specs.Made.{made}
 
 -- a store is made where the shape is within the limits, and memory and list suffice
 pub made_done : (f : Form) (p : Shape) (entries : ℕ) (m : List ℕ) → within_limits p ≡ true → Suffices (sizes_of f p) m → most_scans ≤ entries
-    → (Answer.Done, lay (sizes_of f p) (made_view f p) m) ≡ made f p entries m
+    → (Ok Fields.Done, lay (sizes_of f p) (made_view f p) m) ≡ made f p entries m
 unfolding made bytes_needed
 made_done f p entries m e h k = rw (e, le-leb (need (sizes_of f p) * 4) (length m) h, le-leb most_scans entries k)
 
 -- The premises are what the points of the code know: the flag b of the limits, the sizes s, the words w that they need, and which way the tests went.
 module _ (p : Shape) (entries : ℕ) (m : List ℕ) (b : Bool) (e : b ≡ within_limits p) where
-  pub out_of_limits : b ≡ false → (Answer.Refused Refusal.Shape, m) ≡ made Form.Newest p entries m
+  pub out_of_limits : b ≡ false → (Err Refusal.Shape, m) ≡ made Form.Newest p entries m
   unfolding made
   out_of_limits h = rw (← e, h)
 
@@ -47,12 +49,12 @@ module _ (p : Shape) (entries : ℕ) (m : List ℕ) (b : Bool) (e : b ≡ within
         bytes : w * 4 ≡ need (sizes_of Form.Newest p) * 4
         bytes = rw (z, q)
 
-        pub no_room : length m < w * 4 → (Answer.Refused Refusal.Memory, m) ≡ made Form.Newest p entries m
+        pub no_room : length m < w * 4 → (Err Refusal.Memory, m) ≡ made Form.Newest p entries m
         unfolding made bytes_needed
         no_room l = rw (within, lt-leb (need (sizes_of Form.Newest p) * 4) (length m) (rw bytes at l))
 
         module _ (l : w * 4 ≤ length m) where
-          pub few_entries : entries < most_scans → (Answer.Refused Refusal.Memory, m) ≡ made Form.Newest p entries m
+          pub few_entries : entries < most_scans → (Err Refusal.Memory, m) ≡ made Form.Newest p entries m
           unfolding made bytes_needed
           few_entries k = rw (within, le-leb (need (sizes_of Form.Newest p) * 4) (length m) (rw bytes at l), lt-leb most_scans entries k)
 
@@ -63,5 +65,5 @@ module _ (p : Shape) (entries : ℕ) (m : List ℕ) (b : Bool) (e : b ≡ within
           pub part_room : Suffices s (take (w * 4) m)
           part_room = omega (arith, part_long, z)
 
-          pub laid : most_scans ≤ entries → (m' : List ℕ) → m' ≡ lay s (made_view Form.Newest p) m → (Answer.Done, m') ≡ made Form.Newest p entries m
+          pub laid : most_scans ≤ entries → (m' : List ℕ) → m' ≡ lay s (made_view Form.Newest p) m → (Ok Fields.Done, m') ≡ made Form.Newest p entries m
           laid k m' d = rw (d, q) (made_done Form.Newest p entries m within (rw bytes at l) k)

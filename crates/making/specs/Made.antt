@@ -4,8 +4,11 @@
 use Rattle.std.specs.Prelude.{ℕ, cond, ◌&&◌, List, leb, length}
 use Rattle.model.specs.Writing.{made_view}
 use Rattle.layout.specs.Codes.{as_current}
-use Rattle.terms.specs.Measures.{Shape, within_limits, most_scans}
-use Rattle.terms.specs.declared.Answer.{Answer}
+use Rattle.terms.specs.Measures.{within_limits, most_scans}
+use Rattle.terms.specs.declared.Shape.{Shape}
+use Rattle.std.specs.Prelude.{Ok, Err}
+use Rattle.terms.specs.Answers.{Answer}
+use Rattle.terms.specs.declared.Fields.{Fields}
 use Rattle.terms.specs.declared.Form.{Form}
 use Rattle.terms.specs.declared.ScanEntry.{ScanEntry}
 use Rattle.terms.specs.declared.Refusal.{Refusal}
@@ -23,8 +26,8 @@ named_view s = number Current 0 s.chunks (number PageChunk 0 s.chunks (fill Page
 unfoldable pub made : Form → Shape → ℕ → List ℕ → Answer × List ℕ
 made f p entries m =
     cond (within_limits p)
-    (cond (leb (bytes_needed f p) (length m) && leb most_scans entries) (Answer.Done, lay (sizes_of f p) (made_view f p) m) (Answer.Refused Refusal.Memory, m))
-    (Answer.Refused Refusal.Shape, m)
+    (cond (leb (bytes_needed f p) (length m) && leb most_scans entries) (Ok Fields.Done, lay (sizes_of f p) (made_view f p) m) (Err Refusal.Memory, m))
+    (Err Refusal.Shape, m)
 
 -- and the scan list
 abbrev pub made_list : List ScanEntry → List ScanEntry

@@ -8,7 +8,7 @@ ghost use Rattle.terms.specs.declared.Form.{Form};
 ghost use Rattle.model.specs.Writing.{made_view};
 ghost use Rattle.layout.specs.Regions.{need, columns_at, ranges_at, capacity_at, spares_at};
 ghost use Rattle.layout.specs.declared.Region.TheVariants.{Header};
-ghost use Rattle.layout.specs.Sizes.{shape_of, sizes_of, too_many_words};
+ghost use Rattle.layout.specs.Sizes.{sizes_of, too_many_words};
 ghost use Rattle.layout.specs.View.{put, blank, view_of, Suffices};
 ghost use Rattle.making.specs.Made.{named_view, made};
 
@@ -20,7 +20,7 @@ use layout::{
 use loops::fill;
 use regions::{count_in, fill_in, write};
 use terms::limits::MOST_SCANS;
-use terms::{Answer, Form, Refusal};
+use terms::{Answer, Fields, Form, Refusal, Shape};
 
 // Every word that the sizes need becomes 0.
 fn clear(mem: &mut [u8], s: Sizes)
@@ -44,50 +44,39 @@ fn name_pages(mem: &mut [u8], s: Sizes)
 }
 
 // The measures; the first is the word of the columns, with the form.
-fn put_measures(mem: &mut [u8], s: Sizes, word: u32, ranges: u32, capacity: u32, spares: u32)
+fn put_measures(mem: &mut [u8], s: Sizes, word: u32, shape: Shape)
     requires { Suffices s mem.old }
-    ensures { view_of s mem.new ≡ put Header columns_at word (put Header ranges_at ranges (put Header capacity_at capacity (put Header spares_at spares (view_of s mem.old)))) }
+    ensures { view_of s mem.new ≡ put Header columns_at word (put Header ranges_at shape.ranges (put Header capacity_at shape.capacity (put Header spares_at shape.spares (view_of s mem.old)))) }
 {
-    write(mem, s, Region::Header, HEADER_SPARES, spares);
-    write(mem, s, Region::Header, HEADER_CAPACITY, capacity);
-    write(mem, s, Region::Header, HEADER_RANGES, ranges);
+    write(mem, s, Region::Header, HEADER_SPARES, shape.spares);
+    write(mem, s, Region::Header, HEADER_CAPACITY, shape.capacity);
+    write(mem, s, Region::Header, HEADER_RANGES, shape.ranges);
     write(mem, s, Region::Header, HEADER_COLUMNS, word);
 }
 
 // The needed part of a memory, made.
-fn lay_out(mem: &mut [u8], s: Sizes, columns: u32, ranges: u32, capacity: u32, spares: u32)
+fn lay_out(mem: &mut [u8], s: Sizes, shape: Shape)
     requires suffices { (Suffices s mem.old) × (need s < too_many_words) }
-    requires s_value { (s ≡ sizes_of Form.Newest (shape_of columns ranges capacity spares)) × (s.chunks ≤ s.pages) × (s.pages ≤ most_pages) × (columns ≤ most_columns) }
-    ensures { view_of s mem.new ≡ made_view Form.Newest (shape_of columns ranges capacity spares) }
+    requires s_value { (s ≡ sizes_of Form.Newest shape) × (s.chunks ≤ s.pages) × (s.pages ≤ most_pages) × (shape.columns ≤ most_columns) }
+    ensures { view_of s mem.new ≡ made_view Form.Newest shape }
 {
     clear(mem, s);
     name_pages(mem, s);
-    let word = columns_word(Form::Newest, columns);
-    put_measures(mem, s, word, ranges, capacity, spares);
+    put_measures(mem, s, columns_word(Form::Newest, shape.columns), shape);
 }
 
 // A store of a shape in the newest form, in a memory and with a scan list of so many entries.
-pub fn make(
-    mem: &mut [u8],
-    length: usize,
-    columns: u32,
-    ranges: u32,
-    capacity: u32,
-    spares: u32,
-) -> Answer
-    ensures { (result, mem.new) ≡ made Form.Newest (shape_of columns ranges capacity spares) length mem.old }
+pub fn make(mem: &mut [u8], length: usize, shape: Shape) -> Answer
+    ensures { (result, mem.new) ≡ made Form.Newest shape length mem.old }
 {
-    if !within_limits(columns, ranges, capacity, spares) {
-        return Answer::Refused(Refusal::Shape);
+    if !within_limits(shape) {
+        return Err(Refusal::Shape);
     }
-    let s = sizes_of(Form::Newest, columns, ranges, capacity, spares);
+    let s = sizes_of(Form::Newest, shape);
     let n = words_needed(s) * 4;
-    if mem.len() < n {
-        return Answer::Refused(Refusal::Memory);
+    if mem.len() < n || length < MOST_SCANS {
+        return Err(Refusal::Memory);
     }
-    if length < MOST_SCANS {
-        return Answer::Refused(Refusal::Memory);
-    }
-    lay_out(&mut mem[..n], s, columns, ranges, capacity, spares);
-    Answer::Done
+    lay_out(&mut mem[..n], s, shape);
+    Ok(Fields::Done)
 }

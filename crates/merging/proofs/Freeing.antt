@@ -1,5 +1,5 @@
 -- Release: the least of the open scans' merges tells whether a page is needed, and the loop that frees the pages, turn by turn.
-use Prim.Native.Nat.{ℕ, zero, suc, ◌+◌, ◌^◌, ◌≤◌, ◌<◌}
+use Prim.Native.Nat.{ℕ, zero, suc, ◌+◌, ◌^◌, ◌≤◌, ◌<◌, min}
 use mathlib.Core.Path.{◌≡◌, refl, ap, sym, ◌∙◌, fun_ext}
 use mathlib.Core.Bool.{Bool, true, false, cond, ◌||◌}
 use mathlib.Core.Logic.{inr}
@@ -33,9 +33,13 @@ pub least_none : (l : List ℕ) → 4294967295 ≡ least_of l 0
 unfolding least_of
 least_none l = refl
 
-pub least_next : (l : List ℕ) (i r r' : ℕ) → r ≡ least_of l i → r' ≡ cond (ltb (get_or l i 0) r) (get_or l i 0) r → r' ≡ least_of l (i + 1)
+pub least_next : (l : List ℕ) (i r r' : ℕ) → r ≡ least_of l i → r' ≡ min r (get_or l i 0) → r' ≡ least_of l (i + 1)
 unfolding least_of
-least_next l i r r' e q = q ∙ rw (e, add-one)
+least_next l i r r' e q = q ∙ rw (add-one, ← e) (go (ltb (get_or l i 0) r) refl)
+  where
+    go : (b : Bool) → ltb (get_or l i 0) r ≡ b → min r (get_or l i 0) ≡ cond b (get_or l i 0) r
+    go true h = omega (arith, ltb-true (get_or l i 0) r h)
+    go false h = omega (arith, ltb-false (get_or l i 0) r h)
 
 pub least_end : (l : List ℕ) (r i n : ℕ) → r ≡ least_of l i → i ≤ n → n ≤ i → r ≡ least_of l n
 least_end l r i n e h m = let q : i ≡ n = omega arith in e ∙ rw q

@@ -6,11 +6,13 @@ use mathlib.Core.Bool.{Bool, true, false, not, cond}
 use mathlib.Core.List.{List, [], ◌∷◌}
 use native.Mathlib.Omega.{arith}
 use native.Mathlib.Numerals.{add-one}
-use lib.Dec.{T, T_not, eqb, ltb, lt→ltb}
+use lib.Dec.{T, T_not, eqb, leb, ltb, lt→ltb}
 use lib.ListN.{length, get_or, set}
-use borrow.Author.Tests.{ltb-true, ltb-false, lt-ltb, le-ltb, eq-eqb, ne_eqb}
-use Rattle.terms.specs.Measures.{Shape, range_rows}
-use Rattle.loops.specs.declared.Found.{Found}
+use borrow.Author.Tests.{ltb-true, ltb-false, lt-ltb, le-ltb, le-leb, eq-eqb, ne_eqb}
+use Rattle.terms.specs.Measures.{range_rows}
+use Rattle.terms.specs.declared.Shape.{Shape}
+use Rattle.std.specs.Prelude.{Option, Some, None}
+use Rattle.std.specs.Option.{MatchOption}
 use Rattle.loops.specs.Search.{region, first_at}
 use Rattle.loops.specs.Change.{copied}
 use Rattle.layout.specs.declared.Sizes.{Sizes}
@@ -165,7 +167,7 @@ first_list key l n e = ap (λ (k : ℕ). first_from (λ p. eqb (get_or l p 0) ke
     count (x ∷ l) =
         rw (shifted (λ p. eqb (get_or (x ∷ l) p 0) key) (λ p. eqb (get_or l p 0) key) (λ p. refl) (length l) 0, count l)
 
-module _ (s : Sizes) (m : List ℕ) (room : Suffices s m) (proper : Proper s) (f : Found) (e : f ≡ first_at 0 0 (region (view_of s m Region.PageState) 0 s.pages)) where
+module _ (s : Sizes) (m : List ℕ) (room : Suffices s m) (proper : Proper s) (f : Option ℕ) (e : f ≡ first_at 0 0 (region (view_of s m Region.PageState) 0 s.pages)) where
   -- the first page that says it is free, and the first stray one
   abbrev first : ℕ
   first = first_from (λ p. free_page (page_in (view_of s m) p).state) s.pages 0
@@ -184,33 +186,15 @@ module _ (s : Sizes) (m : List ℕ) (room : Suffices s m) (proper : Proper s) (f
   unfolding free_in
   free_both = let q : s.pages ≡ pages_of (shape_in s) = omega (arith, proper.pages_are, proper.chunks_are) in rw q
 
-  pub free_here : (j : ℕ) → f ≡ Found.At j → Found.At j ≡ found_at s.pages (free_in (shape_in s) (view_of s m))
-  free_here j q = rw free_both (go (ltb first s.pages) refl (sym free_first ∙ q))
+  -- the first search, or else the second
+  pub free_found : (P : Type 0) (r : Option ℕ) → MatchOption f P (λ j. r ≡ Some j) → (P → r ≡ found_at s.pages second)
+      → r ≡ found_at s.pages (free_in (shape_in s) (view_of s m))
+  free_found P r h g =
+      rw free_both (go (ltb first s.pages) (subst (λ (o : Option ℕ). MatchOption o P (λ j. r ≡ Some j)) free_first h) refl)
     where
-      go : (b : Bool) → ltb first s.pages ≡ b → cond b (Found.At first) Found.Nothing ≡ Found.At j → Found.At j ≡ found_at s.pages (cond b first second)
-      go true q f = rw q (sym f)
-      go false q f = let z : ◌≡◌ {A = ℕ} 0 1 = cc in absurd (omega arith)
-
-  pub free_stray : (r : Found) → f ≡ Found.Nothing → r ≡ found_at s.pages second → r ≡ found_at s.pages (free_in (shape_in s) (view_of s m))
-  free_stray r q h = h ∙ rw free_both (go (ltb first s.pages) (sym free_first ∙ q))
-    where
-      go : (b : Bool) → cond b (Found.At first) Found.Nothing ≡ Found.Nothing → found_at s.pages second ≡ found_at s.pages (cond b first second)
-      go true f = let z : ◌≡◌ {A = ℕ} 0 1 = cc in absurd (omega arith)
-      go false f = refl
-
--- ---- the search for a stray page, turn by turn
-module _ (f : ℕ → Bool) (n p : ℕ) (h : p < n) where
-  step : first_from f (n - p) p ≡ cond (f p) p (first_from f (n - (p + 1)) (p + 1))
-  step = let e : n - p ≡ suc (n - (p + 1)) = omega arith in let q : suc p ≡ p + 1 = omega arith in rw (e, q)
-
-  pub stray_here : (x : ℕ) (b : Bool) → x ≡ first_from f (n - p) p → b ≡ f p → b ≡ true → Found.At p ≡ found_at n x
-  stray_here x b e q t = let z : x ≡ p = e ∙ step ∙ rw (← q, t) in rw (z, lt-ltb p n h)
-
-  pub stray_later : (x : ℕ) (b : Bool) → x ≡ first_from f (n - p) p → b ≡ f p → b ≡ false → x ≡ first_from f (n - (p + 1)) (p + 1)
-  stray_later x b e q t = e ∙ step ∙ rw (← q, t)
-
-pub stray_none : (f : ℕ → Bool) (n p x : ℕ) → x ≡ first_from f (n - p) p → p ≤ n → n ≤ p → Found.Nothing ≡ found_at n x
-stray_none f n p x e h k = let z : n - p ≡ 0 = omega arith in let y : x ≡ p = e ∙ rw z in rw (y, le-ltb p n k)
+      go : (b : Bool) → MatchOption (cond b (Some first) None) P (λ j. r ≡ Some j) → ltb first s.pages ≡ b → r ≡ found_at s.pages (cond b first second)
+      go true h q = h ∙ rw q
+      go false h q = g h
 
 -- a page's words tell whether it is stray
 module _ (s : Sizes) (v : View) (proper : Proper s) (p state : ℕ) (e : state ≡ get_or (v Region.PageState) p 0) where
@@ -219,9 +203,9 @@ module _ (s : Sizes) (v : View) (proper : Proper s) (p state : ℕ) (e : state �
   stray_not n = rw (← e, ne_eqb state 1 n)
 
   module _ (s1 : state ≡ 1) (at : ℕ) (w : at ≡ get_or (v Region.PageChunk) p 0) where
-    pub stray_high : s.chunks ≤ at → true ≡ stray_in (shape_in s) v p
+    pub stray_high : s.chunks ≤ at → leb s.chunks at ≡ stray_in (shape_in s) v p
     unfolding stray_in named_in page_in
-    stray_high h = rw (← e, eq-eqb state 1 s1, ← w, le-ltb at (chunks_of (shape_in s)) (omega (arith, proper.chunks_are)))
+    stray_high h = rw (le-leb s.chunks at h, ← e, eq-eqb state 1 s1, ← w, le-ltb at (chunks_of (shape_in s)) (omega (arith, proper.chunks_are)))
 
     pub stray_other : (page : ℕ) → at < s.chunks → page ≡ get_or (v Region.Current) at 0 → not (eqb page p) ≡ stray_in (shape_in s) v p
     unfolding stray_in named_in page_in

@@ -19,7 +19,7 @@ ghost use Rattle.merging.specs.Steps.{applied_one, later_one, applied_all, page_
 
 use layout::codes::{COMMITTED, PAGE_CURRENT, PAGE_FREE, PAGE_WAITING, SETTING};
 use layout::{HEADER_MERGES, Region, Sizes};
-use loops::{Found, both, select};
+use loops::{both, select};
 use regions::{copy_in, find_in, read, write};
 use rows::has_bit;
 use scans::Scans;
@@ -40,39 +40,25 @@ fn is_stray(mem: &[u8], s: Sizes, p: usize) -> bool
         return false;
     }
     let chunk = read(mem, s, Region::PageChunk, p) as usize;
-    if chunk >= s.chunks {
-        return true;
-    }
-    read(mem, s, Region::Current, chunk) as usize != p
+    chunk >= s.chunks || read(mem, s, Region::Current, chunk) as usize != p
 }
 
 // The first stray page. No call leaves one, so that only a memory from elsewhere has any.
-fn stray_page(mem: &[u8], s: Sizes) -> Found
+fn stray_page(mem: &[u8], s: Sizes) -> Option<usize>
     requires suffices { Suffices s mem.now }
     requires proper { Proper s }
     ensures { result ≡ found_at s.pages (first_from (stray_in (shape_in s) (view_of s mem.now)) s.pages 0) }
 {
-    let pages = s.pages;
-    let mut p = 0;
-    while p < pages {
-        if is_stray(mem, s, p) {
-            return Found::At(p);
-        }
-        p += 1;
-    }
-    Found::Nothing
+    (0..s.pages).find(|&p| is_stray(mem, s, p))
 }
 
 // The first page that says it is free, else the first stray one.
-pub fn free_page(mem: &[u8], s: Sizes) -> Found
+pub fn free_page(mem: &[u8], s: Sizes) -> Option<usize>
     requires suffices { Suffices s mem.now }
     requires proper { Proper s }
     ensures { result ≡ found_at s.pages (free_in (shape_in s) (view_of s mem.now)) }
 {
-    let Found::At(page) = find_in(mem, s, Region::PageState, 0, s.pages, PAGE_FREE) else {
-        return stray_page(mem, s);
-    };
-    Found::At(page)
+    find_in(mem, s, Region::PageState, 0, s.pages, PAGE_FREE).or_else(|| stray_page(mem, s))
 }
 
 // Whether the record at a slot is a committed setting of column c.
@@ -81,19 +67,19 @@ fn is_applied(mem: &[u8], s: Sizes, slot: usize, c: u32) -> bool
     requires slot_lt_slots { (slot < s.slots) × (c < 32) }
     ensures { result ≡ applies c (record_in (view_of s mem.now) slot) }
 {
-    if has_bit(read(mem, s, Region::TailMask, slot), c) {
-        if read(mem, s, Region::TailKind, slot) == SETTING {
-            return read(mem, s, Region::TailState, slot) == COMMITTED;
-        }
+    if !has_bit(read(mem, s, Region::TailMask, slot), c)
+        || read(mem, s, Region::TailKind, slot) != SETTING
+    {
+        return false;
     }
-    false
+    read(mem, s, Region::TailState, slot) == COMMITTED
 }
 
 // The later of two stamps.
 fn later_stamp(a: Stamp, b: Stamp) -> Stamp
     ensures { result.0 ≡ cond (ltb a.0 b.0) b.0 a.0 }
 {
-    Stamp(select(a.0 < b.0, b.0, a.0))
+    Stamp(a.0.max(b.0))
 }
 
 // The record at a slot goes into a page, if it is a committed setting of column c; the answer is the latest stamp with it.
@@ -135,13 +121,10 @@ fn apply(
     requires g_lt_ranges { (g < s.ranges) × (c < s.columns) × (page < s.pages) × (low.0 + n ≤ s.capacity) }
     ensures { (result.0 ≡ newest_of (shape_in s) (view_of s mem.old) g c low.0 n newest.0) × (view_of s mem.new ≡ applied_all (shape_in s) g c page low.0 n (view_of s mem.old)) }
 {
-    let merged = low.0 as usize;
-    let first = g * s.capacity + merged;
+    let first = g * s.capacity + low.0 as usize;
     let mut latest = newest;
-    let mut i = 0;
-    while i < n {
+    for i in 0..n {
         latest = apply_one(mem, s, first + i, c, page, latest);
-        i += 1;
     }
     latest
 }
@@ -198,14 +181,11 @@ fn least(counts: [u32; MOST_SCANS], n: usize) -> u32
     requires { n ≤ most_scans }
     ensures { result ≡ least_of counts n }
 {
-    let mut r = HIGHEST_WORD;
-    let mut i = 0;
-    while i < n {
-        let count = counts[i];
-        r = select(count < r, count, r);
-        i += 1;
+    let mut least = HIGHEST_WORD;
+    for count in &counts[..n] {
+        least = least.min(*count);
     }
-    r
+    least
 }
 
 // A page is freed if it waits and no scan needs it; the answer is the count with it. Each turn stores, so that there is no branch.
@@ -233,12 +213,9 @@ fn free_pages(mem: &mut [u8], s: Sizes, least: u32) -> u32
     requires proper { Proper s }
     ensures { (result ≡ count_below (freeable least (view_of s mem.old)) s.pages) × (view_of s mem.new ≡ freeables_freed least s.pages (view_of s mem.old)) }
 {
-    let pages = s.pages;
     let mut n = 0;
-    let mut p = 0;
-    while p < pages {
+    for p in 0..s.pages {
         n = free_one(mem, s, least, p, n);
-        p += 1;
     }
     n
 }
@@ -250,8 +227,6 @@ pub fn release(mem: &mut [u8], s: Sizes, scans: Scans) -> u32
     requires proper { Proper s × (scans.count ≤ most_scans) }
     ensures { (ps : List ScanEntry) → scans ≡ table_of ps → open_count ps ≤ most_scans → (result ≡ count_below (releasable ps (view_of s mem.old)) (pages_of (shape_in s))) × (view_of s mem.new ≡ released_in (shape_in s) ps (view_of s mem.old)) }
 {
-    let counts = scans.merges;
-    let n = scans.count;
-    let fewest = least(counts, n);
+    let fewest = least(scans.merges, scans.count);
     free_pages(mem, s, fewest)
 }

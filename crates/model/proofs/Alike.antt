@@ -1,8 +1,8 @@
 -- The plain history as a machine that answers calls.
 use mathlib.Core.Path.{◌≡◌, refl, ap}
 use mathlib.Core.List.{List, [], ◌∷◌}
-use Rattle.terms.specs.Measures.{Shape}
-use Rattle.terms.specs.declared.Answer.{Answer}
+use Rattle.terms.specs.declared.Shape.{Shape}
+use Rattle.terms.specs.Answers.{Answer}
 use Rattle.history.specs.History.{Call, History, Outcome, outcomes}
 use Rattle.model.specs.Machine.{history_of, outcomes_from}
 

@@ -14,10 +14,12 @@ use lib.IntN.{ℤ, ◌+ℤ◌, +ℤ_assoc, +ℤ_idl, +ℤ_idr}
 use borrow.Author.Tests.{ne_eqb}
 use mir.Syntax.{w32}
 use mir.Val.{to_z}
-use Rattle.terms.specs.Measures.{Shape, range_rows, most_numbers, most_scans}
+use Rattle.terms.specs.Measures.{range_rows, most_numbers, most_scans}
+use Rattle.terms.specs.declared.Shape.{Shape}
 use Rattle.terms.specs.declared.Form.{Form}
 use Rattle.terms.specs.declared.Refusal.{Refusal}
-use Rattle.terms.specs.declared.Answer.{Answer}
+use Rattle.std.specs.Prelude.{Ok}
+use Rattle.terms.specs.declared.Fields.{Fields}
 use Rattle.history.specs.History as H
 use Rattle.history.specs.History.{Call, begin, insert, update, delete, commit, abort, latest, read_at, own_read, open_scan, scan_read, sum, close, merge, release, page_cell, lineage, crossings, begin_as, keeper_at, move, History, Record, Snapshot, snapshot_at, latest_snapshot, active, Test, ◌when◌, Verdict, accept, refuse, verdict, tests, reply, effect, answer, next, answer_if, next_if, stamps_after, stamps_if, slice_of, filled, crossings_between, no_span, outnumber, any, filterb, count, up_to, total, state_of, row_at, range_of, records_of, seen_at, seen_by, ended, visible, version_of, shown, read, scan_at, inserted, last_setting, cell_value, not_active, not_running, not_given, no_column, no_range, lacks_records, earlier, later, out_of_reach, no_page, cell_through}
 use Rattle.history.proofs.Lists.{by_test, all_map, all_at, filterb_append, any_agree, not_not, parts}
@@ -69,8 +71,8 @@ agree_verdict (test {n} {b = b} {ts} {us} e f) = rw e
 own_latest : (h : History) (t r c : ℕ) → r < length h.rows → Unchanged h.rows h.tail t → read (seen_at h (latest_snapshot h)) h r c ≡ read (seen_by h t) h r c
 unfolding read visible version_of ended
 own_latest h t r c b u =
-    ap₂ (λ (x y : Bool). cond (x && not y) (shown h (last_setting (seen_at h (latest_snapshot h)) r c (inserted h r c) h.tail)) Answer.None) first second
-    ∙ ap (λ (y : H.Version). cond (visible (seen_by h t) h r) (shown h y) Answer.None)
+    ap₂ (λ (x y : Bool). cond (x && not y) (shown h (last_setting (seen_at h (latest_snapshot h)) r c (inserted h r c) h.tail)) (Ok Fields.None)) first second
+    ∙ ap (λ (y : H.Version). cond (visible (seen_by h t) h r) (shown h y) (Ok Fields.None))
     (last_agree (seen_at h (latest_snapshot h)) r c (seen_by h t) (inserted h r c) (all_map (λ (y : Record) n _. same y.transaction n) u.no_record))
   where
     same : (k : ℕ) → k ≢ t → seen_at h (latest_snapshot h) k ≡ seen_by h t k
@@ -288,29 +290,29 @@ module _ {F : Form} {S : Shape} {v : View} {ps : List ScanEntry} {h : History} (
 
   pub reply_same : (c : Call) → Passed (tests S h c) → reply_in S v ps c ≡ reply S h c
   unfolding reply_in reply tests H.read_at_tests not_given no_column no_range not_running
-  reply_same begin p = ap Answer.Number (omega (arith, o.header.transactions_given))
-  reply_same (insert t vs) p = ap Answer.Number o.header.rows_given
+  reply_same begin p = ap (λ x. Ok (Fields.Number x)) (omega (arith, o.header.transactions_given))
+  reply_same (insert t vs) p = ap (λ x. Ok (Fields.Number x)) o.header.rows_given
   reply_same (update t r m vs) p =
-      ap₂ (λ (x y : ℕ). Answer.Number (x + y)) (used_is r (search nleb→lt)) (wanted_is o k r m (search nleb→lt) (search) t vs)
-  reply_same (delete t r) p = ap (λ (x : ℕ). Answer.Number (x + 1)) (used_is r (search nleb→lt))
+      ap₂ (λ (x y : ℕ). Ok (Fields.Number (x + y))) (used_is r (search nleb→lt)) (wanted_is o k r m (search nleb→lt) (search) t vs)
+  reply_same (delete t r) p = ap (λ (x : ℕ). Ok (Fields.Number (x + 1))) (used_is r (search nleb→lt))
   reply_same (commit t s) p = refl
   reply_same (abort t) p = refl
   reply_same (latest r c) p =
       ap (λ (s : ℕ). read_current S v (reader (all_up_to s) 0) r c) o.header.last_stamp ∙ read_at_lem h.last.stamp r c (search nleb→lt) (search nleb→lt)
   reply_same (read_at s r c) p = read_at_lem s r c (search nleb→lt) (search nleb→lt)
   reply_same (own_read t r c) p = own_read_lem t r c (search is_active_lem) (search nleb→lt) (search nleb→lt)
-  reply_same (open_scan s) p = ap Answer.Number (omega (arith, o.header.scans_given))
+  reply_same (open_scan s) p = ap (λ x. Ok (Fields.Number x)) (omega (arith, o.header.scans_given))
   reply_same (scan_read i r c) p =
       ap (λ (s : ScanEntry). read_in S v (reader (snapshot_of s) 0) (scan_page S v s.merges (range_of r) c) r c) (found i (not_not (scan_at h i).running (search)))
       ∙ scan_read_lem i r c (not_not (scan_at h i).running (search)) (search nleb→lt) (search nleb→lt)
   reply_same (sum i c) p = sum_same i c (not_not (scan_at h i).running (search)) (search nleb→lt)
   reply_same (close i) p = refl
   reply_same (merge g c n) p = refl
-  reply_same release p = ap Answer.Number (release_count o)
-  reply_same (page_cell c r) p = ap Answer.Value (cell_same c r (search nleb→lt) (search nleb→lt))
-  reply_same (lineage g c) p = ap₂ Answer.Lineage (o.currents g c (search nleb→lt) (search nleb→lt)).lineage (o.tails g (search nleb→lt)).used_all
-  reply_same (crossings r c mark from to stamps) p = ap (λ (l : List ℕ). Answer.Listed (length l)) (crossings_is r c mark from to (search nleb→lt) (search nleb→lt))
-  reply_same (begin_as x) p = ap Answer.Number (omega (arith, o.header.transactions_given))
+  reply_same release p = ap (λ x. Ok (Fields.Number x)) (release_count o)
+  reply_same (page_cell c r) p = ap (λ x. Ok (Fields.Value x)) (cell_same c r (search nleb→lt) (search nleb→lt))
+  reply_same (lineage g c) p = ap₂ (λ n m. Ok (Fields.Lineage n m)) (o.currents g c (search nleb→lt) (search nleb→lt)).lineage (o.tails g (search nleb→lt)).used_all
+  reply_same (crossings r c mark from to stamps) p = ap (λ (l : List ℕ). Ok (Fields.Listed (length l))) (crossings_is r c mark from to (search nleb→lt) (search nleb→lt))
+  reply_same (begin_as x) p = ap (λ x. Ok (Fields.Number x)) (omega (arith, o.header.transactions_given))
   reply_same (move to second) p = refl
   reply_same (keeper_at s r c) p = keeper_is o k (reader (all_up_to s) 0) (seen_at h (snapshot_at h s)) (all_seen s) r (search nleb→lt) c (search nleb→lt)
 

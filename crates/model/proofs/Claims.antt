@@ -9,7 +9,8 @@ use lib.IntN.{pos}
 use mir.Syntax.{w32}
 use mir.Val.{to_z, of_z}
 use mir.ValLaws.{of_z-to_z}
-use Rattle.terms.specs.Measures.{Shape, range_rows}
+use Rattle.terms.specs.Measures.{range_rows}
+use Rattle.terms.specs.declared.Shape.{Shape}
 use Rattle.terms.specs.declared.Form.{Form}
 use Rattle.history.specs.History.{Call, open_scan, effect, next_if, tests, verdict, Verdict, accept, refuse, Scan, no_scan, with_scans, History, next, run, range_of, merged_through, scan_at, cell_through}
 use Rattle.history.specs.Lists.{All}

@@ -12,7 +12,8 @@ use lib.ListN.{length, get_or, set, length-set, get_or-eq_default}
 use lib.Seq.{get_or-set_same, get_or-set_other, set_out}
 use lib.IntN.{ℤ}
 use lib.Bits.{bit_or}
-use Rattle.terms.specs.Measures.{Shape, range_rows}
+use Rattle.terms.specs.Measures.{range_rows}
+use Rattle.terms.specs.declared.Shape.{Shape}
 use Rattle.terms.specs.declared.ScanEntry.{ScanEntry}
 use Rattle.terms.specs.Entries.{free_entry}
 use Rattle.history.specs.History.{Call, begin, insert, update, delete, commit, abort, latest, read_at, own_read, open_scan, scan_read, sum, close, merge, release, page_cell, lineage, crossings, begin_as, keeper_at, move, Commit, no_commit, unknown_keeper, range_of}

@@ -13,7 +13,8 @@ use lib.IntN.{pos}
 use borrow.Author.Tests.{ne_eqb}
 use mir.Syntax.{w32}
 use mir.Val.{to_z}
-use Rattle.terms.specs.Measures.{Shape, range_rows}
+use Rattle.terms.specs.Measures.{range_rows}
+use Rattle.terms.specs.declared.Shape.{Shape}
 use Rattle.history.specs.History.{Call, History, Row, Record, Version, is_committed, state_of, row_at, inserted_value, inserted, last_setting, range_of, records_of, with_rows, with_tail, with_transactions, with_scans, with_merges, cell_through}
 use Rattle.history.specs.Lists.{All}
 use Rattle.history.proofs.Lists.{by_cases, all_map, all_map₂, all_filterb, all_take, filterb_append, length_change}

@@ -11,7 +11,8 @@ use lib.Dec.{T, eqb}
 use lib.ListN.{length, get_or, replicate, length-replicate}
 use mir.Syntax.{w32}
 use mir.Val.{to_z}
-use Rattle.terms.specs.Measures.{Shape, range_rows, most_scans, within_limits, most_transactions, most_chunks}
+use Rattle.terms.specs.Measures.{range_rows, most_scans, within_limits, most_transactions, most_chunks}
+use Rattle.terms.specs.declared.Shape.{Shape}
 use Rattle.terms.specs.declared.Form.{Form}
 use Rattle.history.specs.History.{state_of, start, count, row_at, inserted_value, inserted, last_setting, records_of, keeper_of, last_through, merged_through, scan_at, cell_through}
 use Rattle.history.specs.Lists.{nil}

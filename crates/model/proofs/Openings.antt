@@ -9,7 +9,8 @@ use lib.Dec.{T, eqb, nleb→lt}
 use lib.ListN.{length}
 use lib.IntN.{ℤ}
 use lib.Bits.{bit_or}
-use Rattle.terms.specs.Measures.{Shape, range_rows}
+use Rattle.terms.specs.Measures.{range_rows}
+use Rattle.terms.specs.declared.Shape.{Shape}
 use Rattle.terms.specs.declared.Form.{Form}
 use Rattle.history.specs.History as H
 use Rattle.history.specs.History.{Call, begin, insert, update, delete, commit, abort, latest, read_at, own_read, open_scan, scan_read, sum, close, merge, release, page_cell, lineage, crossings, begin_as, keeper_at, move, History, Verdict, accept, refuse, verdict, tests, next, run, range_of, scan_at, with_scans}

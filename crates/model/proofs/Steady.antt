@@ -9,7 +9,7 @@ use native.Mathlib.Nat.{le_refl, le_trans}
 use native.Mathlib.Decide.{ℕ_discrete, dec_lt}
 use lib.Dec.{T}
 use lib.ListN.{length}
-use Rattle.terms.specs.Measures.{Shape}
+use Rattle.terms.specs.declared.Shape.{Shape}
 use Rattle.terms.specs.declared.Form.{Form}
 use Rattle.history.specs.History as H
 use Rattle.history.specs.History.{Call, History, Scan, Snapshot, no_scan, nth, change, row_at, range_of, merged_through, seen_at, scan_at, stopped}

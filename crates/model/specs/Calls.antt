@@ -5,10 +5,13 @@ use Rattle.std.specs.Prelude.{Bool, not, ◌&&◌, ◌||◌, List, [], ◌∷◌
 use Rattle.std.proofs.Math.Seq as Seq
 use Rattle.std.specs.Int.{w32}
 use Rattle.std.proofs.Common.{to_z, SFits}
-use Rattle.terms.specs.Measures.{Shape, range_rows, most_transactions, most_scans, most_numbers, most_columns}
+use Rattle.terms.specs.Measures.{range_rows, most_transactions, most_scans, most_numbers, most_columns}
+use Rattle.terms.specs.declared.Shape.{Shape}
 use Rattle.terms.specs.declared.Form.{Form}
 use Rattle.terms.specs.declared.Refusal.{Refusal}
-use Rattle.terms.specs.declared.Answer.{Answer}
+use Rattle.std.specs.Prelude.{Ok}
+use Rattle.terms.specs.Answers.{Answer}
+use Rattle.terms.specs.declared.Fields.{Fields}
 use Rattle.history.specs.History.{Call, begin, insert, update, delete, commit, abort, latest, read_at, own_read, open_scan, scan_read, sum, close, merge, release, page_cell, lineage, crossings, begin_as, keeper_at, move, unknown_keeper, Test, ◌when◌, verdict, Verdict, accept, refuse, answer_if, Outcome, Slice, none, of_crossings, slice_of, lent_to, stamps_if, any, count, no_column, no_range, bad_mask, outnumber, range_of}
 use Rattle.history.specs.Lists.{All}
 use Rattle.history.specs.Forms.{FormUse, either, newest, moving, form_use}
@@ -163,29 +166,29 @@ tests_in S v ps (move to second) = move_tests_in to S v
 
 -- ---- what an accepted call answers
 unfoldable pub reply_in : Shape → View → List ScanEntry → Call → Answer
-reply_in S v ps begin = Answer.Number (transactions_given v + 1)
-reply_in S v ps (insert t vs) = Answer.Number (rows_given v)
-reply_in S v ps (update t r m vs) = Answer.Number (used_in v (range_of r) + records_wanted v r m)
-reply_in S v ps (delete t r) = Answer.Number (used_in v (range_of r) + 1)
-reply_in S v ps (commit t s) = Answer.Done
-reply_in S v ps (abort t) = Answer.Done
+reply_in S v ps begin = Ok (Fields.Number (transactions_given v + 1))
+reply_in S v ps (insert t vs) = Ok (Fields.Number (rows_given v))
+reply_in S v ps (update t r m vs) = Ok (Fields.Number (used_in v (range_of r) + records_wanted v r m))
+reply_in S v ps (delete t r) = Ok (Fields.Number (used_in v (range_of r) + 1))
+reply_in S v ps (commit t s) = Ok Fields.Done
+reply_in S v ps (abort t) = Ok Fields.Done
 reply_in S v ps (latest r c) = read_current S v (reader (all_up_to (last_stamp v)) 0) r c
 reply_in S v ps (read_at s r c) = read_current S v (reader (all_up_to s) 0) r c
 reply_in S v ps (own_read t r c) = read_current S v (reader (all_up_to (last_stamp v)) (own_changes v t)) r c
-reply_in S v ps (open_scan s) = Answer.Number (scans_given v + 1)
+reply_in S v ps (open_scan s) = Ok (Fields.Number (scans_given v + 1))
 reply_in S v ps (scan_read k r c) =
     let s = scan_entry ps k in
     read_in S v (reader (snapshot_of s) 0) (scan_page S v s.merges (range_of r) c) r c
 reply_in S v ps (sum k c) = sum_in S v (scan_entry ps k) c
-reply_in S v ps (close k) = Answer.Done
-reply_in S v ps (merge g c n) = Answer.Done
-reply_in S v ps release = Answer.Number (count_below (releasable ps v) (pages_of S))
-reply_in S v ps (page_cell c r) = Answer.Value (to_z w32 (cell_in v (current_in S v (range_of r) c) (within r)))
-reply_in S v ps (lineage g c) = Answer.Lineage (page_in v (current_in S v g c)).lineage (used_in v g)
-reply_in S v ps (crossings r c mark from to stamps) = Answer.Listed (length (crossings_in S v r c mark from to))
-reply_in S v ps (begin_as k) = Answer.Number (transactions_given v + 1)
+reply_in S v ps (close k) = Ok Fields.Done
+reply_in S v ps (merge g c n) = Ok Fields.Done
+reply_in S v ps release = Ok (Fields.Number (count_below (releasable ps v) (pages_of S)))
+reply_in S v ps (page_cell c r) = Ok (Fields.Value (to_z w32 (cell_in v (current_in S v (range_of r) c) (within r))))
+reply_in S v ps (lineage g c) = Ok (Fields.Lineage (page_in v (current_in S v g c)).lineage (used_in v g))
+reply_in S v ps (crossings r c mark from to stamps) = Ok (Fields.Listed (length (crossings_in S v r c mark from to)))
+reply_in S v ps (begin_as k) = Ok (Fields.Number (transactions_given v + 1))
 reply_in S v ps (keeper_at s r c) = keeper_in S v (reader (all_up_to s) 0) r c
-reply_in S v ps (move to second) = Answer.Done
+reply_in S v ps (move to second) = Ok Fields.Done
 
 -- ---- and the slice that it was lent
 unfoldable pub stamps_in : Shape → View → Slice → List ℕ

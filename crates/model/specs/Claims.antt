@@ -4,7 +4,8 @@
 use Rattle.std.specs.Prelude.{◌≡◌, List, ℕ, ◌+◌, ◌*◌, ◌≤◌, ◌<◌, length}
 use Rattle.std.specs.Int.{w32}
 use Rattle.std.proofs.Common.{to_z}
-use Rattle.terms.specs.Measures.{Shape, range_rows}
+use Rattle.terms.specs.Measures.{range_rows}
+use Rattle.terms.specs.declared.Shape.{Shape}
 use Rattle.history.specs.History.{Call, History, start, run, merged_through, scan_at, range_of}
 use Rattle.history.specs.Latest.{last_taken}
 use Rattle.layout.specs.View.{View}

@@ -1,6 +1,7 @@
 -- The footprint of a call: the words of a memory, and the entries of a list, that it may change where it is accepted; it changes no other, in whatever memory. proofs/Footprint.antt proves it.
 use Rattle.std.specs.Prelude.{◌≡◌, ◌⊎◌, Bool, List, [], ◌∷◌, ◌++◌, ℕ, zero, suc, ◌+◌, ◌*◌, T, eqb, length, get_or}
-use Rattle.terms.specs.Measures.{Shape, range_rows}
+use Rattle.terms.specs.Measures.{range_rows}
+use Rattle.terms.specs.declared.Shape.{Shape}
 use Rattle.history.specs.History.{Call, begin, insert, update, delete, commit, abort, latest, read_at, own_read, open_scan, scan_read, sum, close, merge, release, page_cell, lineage, crossings, begin_as, keeper_at, move, any, range_of}
 use Rattle.layout.specs.Regions.{first_slot, rows_at, transactions_at, scans_at, stamp_at, merges_at, commits_at}
 use Rattle.layout.specs.View.{View, rows_given}

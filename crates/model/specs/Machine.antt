@@ -1,7 +1,7 @@
 -- What answers calls: the plain history, a store in lent memory, or whatever else has an outcome and a next state for each call.
 use Rattle.std.specs.Prelude.{List, [], ◌∷◌}
-use Rattle.terms.specs.Measures.{Shape}
-use Rattle.terms.specs.declared.Answer.{Answer}
+use Rattle.terms.specs.declared.Shape.{Shape}
+use Rattle.terms.specs.Answers.{Answer}
 use Rattle.history.specs.History.{Call, History, Outcome, outcome, next}
 
 -- In each state the outcome of a call, and the state after it.

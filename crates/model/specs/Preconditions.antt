@@ -1,6 +1,7 @@
 -- What the functions over the lent memory ask for before they read or write: the few facts of the view that an access rests on, by name. Every call tests the stored facts first, so that it can hand these on.
 use Rattle.std.specs.Prelude.{ℕ, ◌≤◌, ◌<◌, ◌≡◌, eqb, get_or}
-use Rattle.terms.specs.Measures.{Shape, most_transactions}
+use Rattle.terms.specs.Measures.{most_transactions}
+use Rattle.terms.specs.declared.Shape.{Shape}
 use Rattle.layout.specs.declared.Sizes.{Sizes}
 use Rattle.layout.specs.declared.Region.{Region}
 use Rattle.layout.specs.View.{View, rows_given, used_in}

@@ -4,10 +4,12 @@
 use Rattle.std.specs.Prelude.{Bool, not, cond, ◌&&◌, ◌||◌, ℕ, zero, suc, ◌-◌, ◌%◌, leb, ltb, eqb, get_or, ℤ, pos, ◌+ℤ◌}
 use Rattle.std.specs.Int.{w32}
 use Rattle.std.proofs.Common.{to_z}
-use Rattle.terms.specs.Measures.{Shape}
-use Rattle.terms.specs.declared.Answer.{Answer}
+use Rattle.terms.specs.declared.Shape.{Shape}
+use Rattle.std.specs.Prelude.{Ok}
+use Rattle.terms.specs.Answers.{Answer}
+use Rattle.terms.specs.declared.Fields.{Fields}
 use Rattle.history.specs.History.{Snapshot, bit, range_of}
-use Rattle.loops.specs.declared.Found.{Found}
+use Rattle.std.specs.Prelude.{Option, Some, None}
 use Rattle.layout.specs.View.{View, rows_given}
 use Rattle.layout.specs.declared.Region.TheVariants.{Changes}
 use Rattle.terms.specs.declared.ScanEntry.{ScanEntry}
@@ -61,24 +63,24 @@ answers_for who c x = bit x.mask c && (original_kind x.kind || (setting_kind x.k
 
 -- From record k of range g back along the links, while the record's number is above `low`, to the slot of the first that answers. The links are lower numbers,
 -- so k steps are enough.
-unfoldable pub walk : Shape → View → Reader → ℕ → ℕ → ℕ → ℕ → ℕ → Found
-walk S v who g c low zero k = Found.Nothing
+unfoldable pub walk : Shape → View → Reader → ℕ → ℕ → ℕ → ℕ → ℕ → Option ℕ
+walk S v who g c low zero k = None
 walk S v who g c low (suc n) k =
     let x = record_in v (slot S g k) in
     let further = walk S v who g c low n x.link in
-    cond (leb k low) Found.Nothing (cond (answers_for who c x) (Found.At (slot S g k)) further)
+    cond (leb k low) None (cond (answers_for who c x) (Some (slot S g k)) further)
 
 -- the record that answers for row r and column c, of those with a number above `low`: none for a column that no update has set
-unfoldable pub found_in : Shape → View → Reader → ℕ → ℕ → ℕ → Found
+unfoldable pub found_in : Shape → View → Reader → ℕ → ℕ → ℕ → Option ℕ
 found_in S v who low r c =
     let x = row_in v r in
     let found = walk S v who (range_of r) c low x.link x.link in
-    cond (bit x.mask c) found Found.Nothing
+    cond (bit x.mask c) found None
 
 -- what is read of the slot found, or else x
-abbrev pub or_else : {A : Type 0} → Found → (ℕ → A) → A → A
-or_else (Found.At i) at x = at i
-or_else Found.Nothing at x = x
+abbrev pub or_else : {A : Type 0} → Option ℕ → (ℕ → A) → A → A
+or_else (Some i) at x = at i
+or_else None at x = x
 
 -- the number below the first record of a range: down to it, every record is looked at
 abbrev pub floor : ℕ
@@ -117,12 +119,12 @@ lookup_in S v who p r c = record { word = word_in S v who p r c; setter = setter
 
 -- what a read shows of a version of row r
 unfoldable pub shown_in : View → ℕ → Version → Answer
-shown_in v r x = Answer.Version (to_z w32 x.word) (setter_stamp v r x.setter)
+shown_in v r x = Ok (Fields.Version (to_z w32 x.word) (setter_stamp v r x.setter))
 
 unfoldable pub read_in : Shape → View → Reader → ℕ → ℕ → ℕ → Answer
 read_in S v who p r c =
     let x = lookup_in S v who p r c in
-    cond (visible_in S v who r) (shown_in v r x) Answer.None
+    cond (visible_in S v who r) (shown_in v r x) (Ok Fields.None)
 
 -- ---- the keeper
 -- Rule 10.10: the keeper that the record bears that answers for row r and column c, the insert's where none does. An original bears the insert's itself.
@@ -130,7 +132,7 @@ unfoldable pub keeper_word : Shape → View → Reader → ℕ → ℕ → ℕ
 keeper_word S v who r c = or_else (found_in S v who floor r c) (record_keeper v) (row_keeper v r)
 
 unfoldable pub keeper_in : Shape → View → Reader → ℕ → ℕ → Answer
-keeper_in S v who r c = cond (visible_in S v who r) (Answer.Number (keeper_word S v who r c % keeper_limit)) Answer.None
+keeper_in S v who r c = cond (visible_in S v who r) (Ok (Fields.Number (keeper_word S v who r c % keeper_limit))) (Ok Fields.None)
 
 -- the read of the current page
 unfoldable pub read_current : Shape → View → Reader → ℕ → ℕ → Answer
@@ -171,4 +173,4 @@ tally S v s c (suc r) =
 unfoldable pub sum_in : Shape → View → ScanEntry → ℕ → Answer
 sum_in S v s c =
     let t = tally S v s c (rows_given v) in
-    Answer.Sum t.count t.total
+    Ok (Fields.Sum t.count t.total)

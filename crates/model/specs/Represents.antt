@@ -4,7 +4,8 @@
 use Rattle.std.specs.Prelude.{◌≡◌, ◌≢◌, Bool, not, cond, ◌&&◌, List, [], ◌∷◌, ℕ, suc, ◌+◌, ◌*◌, ◌≤◌, ◌<◌, T, eqb, length, get_or, take, pos}
 use Rattle.std.specs.Int.{w32}
 use Rattle.std.proofs.Common.{to_z}
-use Rattle.terms.specs.Measures.{Shape, most_columns, most_ranges, most_records, most_spares, most_transactions, most_scans}
+use Rattle.terms.specs.Measures.{most_columns, most_ranges, most_records, most_spares, most_transactions, most_scans}
+use Rattle.terms.specs.declared.Shape.{Shape}
 use Rattle.terms.specs.declared.Form.{Form}
 use Rattle.history.specs.History.{History, Row, Record, Commit, State, unknown, active, aborted, committed, Content, original, setting, ending, Scan, Merge, is_active, state_of, keeper_of, bearer, row_at, bit, sets, range_of, records_of, merged_through, scan_at, seen_at, cell_through, count, Call, answer, stamps_after, next, commit_of}
 use Rattle.history.specs.Lists.{All}

@@ -1,7 +1,8 @@
 -- How a view of the memory is read: the header's words, one row, one tail record, one page, and what the words for states and kinds mean.
 -- Where a word can hold more than the store writes, the tests here say what every other value counts as; so each call answers for every memory.
 use Rattle.std.specs.Prelude.{Bool, false, cond, ◌||◌, List, ℕ, zero, suc, ◌+◌, ◌*◌, ◌%◌, ◌^◌, ltb, eqb, get_or}
-use Rattle.terms.specs.Measures.{Shape, range_rows}
+use Rattle.terms.specs.Measures.{range_rows}
+use Rattle.terms.specs.declared.Shape.{Shape}
 use Rattle.layout.specs.Codes.{as_open, as_committed, as_original, as_setting, as_free, as_current}
 use Rattle.layout.specs.View.{View}
 use Rattle.layout.specs.declared.Region.TheVariants.{Header, Opens, RowTransaction, RowState, RowStamp, RowLink, RowMask, TailTransaction, TailRow, TailKind, TailMask, TailLink, TailState, TailStamp, TailValues, Current, PageState, PageChunk, PageMade, PageReplaced, PageLineage, PageNewest, Cells, RowOrdinal, TailOrdinal, RowKeeper, TailKeeper, OpenKeeper}

@@ -1,8 +1,9 @@
 -- The proved cases (section 13 of docs/SPECIFICATION.md) on a store just made. Of P1 to P16 and P18 to P24 the store's definitions give the same outcomes as the table asks of the plain history; 13.17 is of the store alone:
 -- which words of the memory a merge changes.
 use Rattle.std.specs.Prelude.{◌≡◌, refl, cond, List, [], ◌∷◌, ◌++◌, map, ℕ, suc, eqb, replicate}
-use Rattle.terms.specs.Measures.{Shape, most_scans}
-use Rattle.terms.specs.declared.Answer.{Answer}
+use Rattle.terms.specs.Measures.{most_scans}
+use Rattle.terms.specs.declared.Shape.{Shape}
+use Rattle.terms.specs.Answers.{Answer}
 use Rattle.terms.specs.declared.Form.{Form}
 use Rattle.terms.specs.declared.ScanEntry.{ScanEntry}
 use Rattle.layout.specs.declared.Region.{Region}

@@ -3,7 +3,7 @@
 use Rattle.std.specs.Prelude.{Bool, not, cond, ◌&&◌, ◌||◌, List, [], ◌∷◌, ◌++◌, ℕ, zero, suc, eqb, ℤ}
 use Rattle.std.specs.Int.{w32}
 use Rattle.std.proofs.Common.{to_z}
-use Rattle.terms.specs.Measures.{Shape}
+use Rattle.terms.specs.declared.Shape.{Shape}
 use Rattle.history.specs.History.{Dated, last_of_each, crossings_from, range_of}
 use Rattle.layout.specs.View.{View, used_in}
 use Rattle.layout.specs.Regions.{slot}

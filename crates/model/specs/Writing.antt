@@ -3,7 +3,8 @@ use Rattle.std.specs.Prelude.{Bool, not, cond, ◌&&◌, List, ℕ, zero, suc, �
 use Rattle.std.specs.Int.Bits.{bit_or, bit_xor}
 use Rattle.std.specs.Int.{w32}
 use Rattle.std.proofs.Common.{of_z}
-use Rattle.terms.specs.Measures.{Shape, range_rows}
+use Rattle.terms.specs.Measures.{range_rows}
+use Rattle.terms.specs.declared.Shape.{Shape}
 use Rattle.terms.specs.declared.Form.{Form}
 use Rattle.history.specs.History.{Commit, no_commit, any, bit, range_of}
 use Rattle.loops.specs.Change.{changed, filled, numbered, copied, marked}

@@ -8,9 +8,11 @@ use lib.Dec.{leb}
 use lib.ListN.{length, take, drop}
 use lib.Seq.{length-take-le}
 use borrow.Author.Tests.{le-leb, lt-leb}
-use Rattle.terms.specs.Measures.{Shape}
+use Rattle.terms.specs.declared.Shape.{Shape}
 use Rattle.terms.specs.Refusals.{is_accepted}
-use Rattle.terms.specs.declared.Answer.{Answer}
+use Rattle.std.specs.Prelude.{Ok, Err}
+use Rattle.terms.specs.Answers.{Answer}
+use Rattle.terms.specs.declared.Fields.{Fields}
 use Rattle.terms.specs.declared.Form.{Form}
 use Rattle.terms.specs.declared.Refusal.{Refusal}
 use Rattle.terms.specs.declared.ScanEntry.{ScanEntry}
@@ -28,7 +30,8 @@ use Rattle.facts.specs.Usable.{stored_shape, stored_form, stored_sizes}
 use Rattle.model.specs.Calls.{tests_in, move_tests_in, keeper_borne_in, reply_in, act_in, say, view_if, store_next}
 use Rattle.model.specs.Preconditions.{shape_in}
 use Rattle.promise.specs.Promise.{lend, store_view, admits, answer_of, laid_into, second_after, Moves, MovesBy}
-use Rattle.admission.specs.declared.Admission.{Admission}
+use Rattle.std.specs.Prelude.{Ok, Err}
+use Rattle.terms.specs.declared.Refusal.{Refusal}
 use Rattle.admission.specs.Admitted.{Fitted, PassedWith, Admitted, Admits}
 use Rattle.admission.proofs.Served.{FitBytes, admitted, unfit_moves}
 use Rattle.moving.proofs.Laid.{moved_small}
@@ -51,21 +54,21 @@ part_long w second room = sym (length-take-le (w * 4) second room)
 pub part_room : (r : Sizes) (w : ℕ) (second : List ℕ) → w ≡ need r → w * 4 ≤ length second → Suffices r (take (w * 4) second)
 part_room r w second z room = omega (arith, part_long w second room)
 
-module _ (to other : Form) (o : other ≡ other_form to) (e : Admission) (m : List ℕ) (t : Scans) (h : Admits (is_form other) e m t) where
+module _ (to other : Form) (o : other ≡ other_form to) (m : List ℕ) (t : Scans) where
   -- ---- the memory is not usable, or not in the other form
-  pub unfit : (second : List ℕ) → e ≡ Admission.Unfit → MovesBy t m (Call.move to second) (Answer.Refused Refusal.Memory) second
-  unfit second f = unfit_moves e m t (move to second) f (rw o at h)
+  pub unfit : (second : List ℕ) (x : Refusal) → Admits (is_form other) (Err x) m t → MovesBy t m (Call.move to second) (Err x) second
+  unfit second x h = unfit_moves m t (move to second) x (rw o at h)
 
   -- ---- it is, and r are the sizes moved to
-  module _ (s : Sizes) (n : ℕ) (f : e ≡ Admission.Fit s n) where
+  module _ (s : Sizes) (n : ℕ) (h : Admits (is_form other) (Ok (s, n)) m t) where
     known : Admitted s n m t
-    known = (admitted (is_form other) e s n m t f h).0
+    known = (admitted (is_form other) s n m t h).0
 
     pub fitted : Fitted s m
     fitted = known.fitted
 
     other_is : is_form (other_form to) s.form ≡ true
-    other_is = rw o at (admitted (is_form other) e s n m t f h).1
+    other_is = rw o at (admitted (is_form other) s n m t h).1
 
     module _ (r : Sizes) (q : r ≡ in_form to s) where
       pub small : need r < too_many_words
@@ -87,7 +90,7 @@ module _ (to other : Form) (o : other ≡ other_form to) (e : Admission) (m : Li
         bytes_are = rw (z, moved_is)
 
         -- ---- the second memory is too short
-        pub short : length second < w * 4 → MovesBy t m (Call.move to second) (Answer.Refused Refusal.Memory) second
+        pub short : length second < w * 4 → MovesBy t m (Call.move to second) (Err Refusal.Memory) second
         unfolding MovesBy Moves answer_of second_after admits stored_sizes
         short b = λ ps l.
             let p = known.listed ps l in
@@ -114,22 +117,22 @@ module _ (to other : Form) (o : other ≡ other_form to) (e : Admission) (m : Li
 
           module _ (b : Bool) (k : b ≡ (is_form Form.First to && keeper_borne_in (shape_in s) (view_of s m))) where
             -- a keeper would be lost
-            pub lost : b ≡ true → MovesBy t m (Call.move to second) (Answer.Refused Refusal.Keeper) second
+            pub lost : b ≡ true → MovesBy t m (Call.move to second) (Err Refusal.Keeper) second
             unfolding MovesBy Moves say tests_in answer_if
             lost y = λ ps l.
                 let p = known.listed ps l in
                 let x = lost_verdict to (shape_in s) (view_of s m) b k y in
-                let a : Answer.Refused Refusal.Keeper ≡ say (shape_in s) (view_of s m) ps (move to second) = rw x in
+                let a : ◌≡◌ {A = Answer} (Err Refusal.Keeper) (say (shape_in s) (view_of s m) ps (move to second)) = rw x in
                 (a ∙ answer_is ps p, ap (λ (u : Answer). laid_into (form_use (move to second)) (is_accepted u) (shape_in s) (store_next (shape_in s) (view_of s m) ps (move to second)) second) a ∙ second_is ps p)
 
             -- none is, and p was left in the bytes needed
             pub done : b ≡ false → (p : List ℕ) → view_of r p ≡ moved r.form (shape_in s) (view_of s m) → length p ≡ length (take (w * 4) second) → FitBytes (p ++ drop (w * 4) second)
-                → MovesBy t m (Call.move to second) Answer.Done (p ++ drop (w * 4) second)
+                → MovesBy t m (Call.move to second) (Ok Fields.Done) (p ++ drop (w * 4) second)
             unfolding MovesBy Moves say tests_in answer_if reply_in store_next view_if act_in
             done y p d g u = λ ps l.
                 let passed = known.listed ps l in
                 let x = kept_verdict to (shape_in s) (view_of s m) b k y in
-                let a : Answer.Done ≡ say (shape_in s) (view_of s m) ps (move to second) = rw x in
+                let a : ◌≡◌ {A = Answer} (Ok Fields.Done) (say (shape_in s) (view_of s m) ps (move to second)) = rw x in
                 let seen : view_of r p ≡ moved to (shape_in s) (view_of s m) = d ∙ ap (λ (x : Sizes). moved x.form (shape_in s) (view_of s m)) q in
                 let laid : p ++ drop (w * 4) second ≡ lay r (moved to (shape_in s) (view_of s m)) second = lent r (w * 4) second p (λ v. moved to (shape_in s) (view_of s m)) seen g (λ i. (u i).fits) (omega (arith, z)) (omega (arith, z)) in
                 let left : p ++ drop (w * 4) second ≡ lay (sizes_of to (shape_in s)) (moved to (shape_in s) (view_of s m)) second = laid ∙ ap (λ (x : Sizes). lay x (moved to (shape_in s) (view_of s m)) second) moved_is in

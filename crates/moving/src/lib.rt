@@ -18,7 +18,8 @@ ghost use Rattle.promise.specs.Promise.{MovesBy};
 ghost use Rattle.admission.specs.Admitted.{Fitted};
 ghost use Rattle.moving.specs.Borne.{tail_borne, open_borne};
 
-use admission::{Admission, admit_in};
+use admission::admit_in;
+use conditions::any_below;
 use layout::codes::KEEPER_LIMIT;
 use layout::{
     HEADER_COLUMNS, HEADER_ROWS, Region, Sizes, base, columns_word, in_form, words_needed,
@@ -27,7 +28,7 @@ use loops::{both, copy_from, either};
 use regions::{fill_in, read, read_later, write};
 use scans::Scans;
 use terms::limits::MOST_TRANSACTIONS;
-use terms::{Answer, Form, Refusal};
+use terms::{Answer, Fields, Form, Refusal};
 
 // ---- 22: whether a row, a tail record or an open transaction bears a keeper other than 0
 
@@ -37,20 +38,13 @@ fn bears(word: u32) -> bool
     word % KEEPER_LIMIT != 0
 }
 
-// Whether one of n words of region k, which has `length` words, bears one, from `at` on. The flag is carried to the end, so that the loop vectorises.
+// Whether one of n words of region k, which has `length` words, bears one, from `at` on.
 fn any_borne(mem: &[u8], s: Sizes, k: Region, length: usize, at: usize, n: usize) -> bool
     requires suffices { Suffices s mem.now }
     requires length_len { (length ≡ len s k) × (at + n < 2 ^ 62) }
     ensures { result ≡ any_below (λ i. bears_keeper (get_or (view_of s mem.now k) (at + i) 0)) n }
 {
-    let mut flag = false;
-    let mut i = 0;
-    while i < n {
-        let word = read_later(mem, s, k, length, at + i);
-        flag = either(flag, bears(word));
-        i += 1;
-    }
-    flag
+    any_below(n, |i| bears(read_later(mem, s, k, length, at + i)))
 }
 
 // Of the used tail records of every range.
@@ -58,22 +52,11 @@ fn tails_borne(mem: &[u8], s: Sizes) -> bool
     requires { Fitted s mem.now }
     ensures { result ≡ any_below (tail_borne s (view_of s mem.now)) s.ranges }
 {
-    let mut flag = false;
-    let mut g = 0;
-    while g < s.ranges {
+    any_below(s.ranges, |g| {
+        let at = g * s.capacity;
         let used = read(mem, s, Region::Used, g) as usize;
-        let found = any_borne(
-            mem,
-            s,
-            Region::TailKeeper,
-            s.later.slots,
-            g * s.capacity,
-            used,
-        );
-        flag = either(flag, found);
-        g += 1;
-    }
-    flag
+        any_borne(mem, s, Region::TailKeeper, s.later.slots, at, used)
+    })
 }
 
 // Of the open transactions.
@@ -81,15 +64,11 @@ fn opens_borne(mem: &[u8], s: Sizes) -> bool
     requires { Suffices s mem.now }
     ensures { result ≡ any_below (open_borne (view_of s mem.now)) most_transactions }
 {
-    let mut flag = false;
-    let mut j = 0;
-    while j < MOST_TRANSACTIONS {
+    any_below(MOST_TRANSACTIONS, |j| {
         let number = read(mem, s, Region::Opens, j);
         let word = read_later(mem, s, Region::OpenKeeper, s.later.opens, j);
-        flag = either(flag, both(number != 0, bears(word)));
-        j += 1;
-    }
-    flag
+        both(number != 0, bears(word))
+    })
 }
 
 // Of them all.
@@ -143,23 +122,22 @@ fn lay_moved(mem: &[u8], s: Sizes, second: &mut [u8], to: Sizes, word: u32)
 }
 
 // A store is moved to a form, into a second memory.
+#[tactic(auto, using(crate::proofs::Ends::unfit, crate::proofs::Ends::fitted, crate::proofs::Ends::small, crate::proofs::Ends::sizes_moved, crate::proofs::Ends::word_moved, crate::proofs::Ends::short, crate::proofs::Ends::part_long, crate::proofs::Ends::part_room, crate::proofs::Ends::lost, crate::proofs::Ends::done))]
 fn move_to(mem: &[u8], scans: Scans, second: &mut [u8], to: Form) -> Answer
     ensures { MovesBy scans mem.now (Call.move to second.old) result second.new }
 {
-    let Admission::Fit(s, _) = admit_in(mem, scans, other_form(to)) else {
-        return Answer::Refused(Refusal::Memory);
-    };
+    let (s, _) = admit_in(mem, scans, other_form(to))?;
     let moved = in_form(s, to);
     let n = words_needed(moved) * 4;
     if second.len() < n {
-        return Answer::Refused(Refusal::Memory);
+        return Err(Refusal::Memory);
     }
     if keeper_lost(mem, s, to) {
-        return Answer::Refused(Refusal::Keeper);
+        return Err(Refusal::Keeper);
     }
     let word = columns_word(to, s.columns as u32);
     lay_moved(mem, s, &mut second[..n], moved, word);
-    Answer::Done
+    Ok(Fields::Done)
 }
 
 // A store in the first form is moved into a second memory, in the newest form.

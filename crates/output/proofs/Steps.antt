@@ -7,14 +7,16 @@ use native.Mathlib.Omega.{arith}
 use lib.Dec.{leb}
 use lib.ListN.{length, take, drop, drop_of_length-le}
 use borrow.Author.Tests.{leb-false, leb-true, le-leb}
-use Rattle.terms.specs.Measures.{Shape, between, within_limits, most_columns, most_ranges, most_records, most_spares}
+use Rattle.terms.specs.Measures.{between, within_limits, most_columns, most_ranges, most_records, most_spares}
+use Rattle.terms.specs.declared.Shape.{Shape}
 use Rattle.terms.specs.declared.Refusal.{Refusal}
-use Rattle.terms.specs.declared.Answer.{Answer}
+use Rattle.std.specs.Prelude.{Ok, Err}
+use Rattle.terms.specs.Answers.{Answer}
+use Rattle.terms.specs.declared.Fields.{Fields}
 use Rattle.terms.specs.declared.Form.{Form}
 use Rattle.history.specs.History.{Call, begin, insert, update, delete, commit, abort, latest, read_at, own_read, open_scan, scan_read, sum, close, merge, release, page_cell, lineage, crossings, begin_as, keeper_at, move, begin_tests, read_at_tests, move_tests, keeper_of, keeper_read, History, alone, outcome, outcomes, start, Test, tests, verdict, refuse, reply, shown, read, visible, version_of, sum_of, answer, answer_if, next}
 use Rattle.lines.specs.Lines.{line, shape_line}
-use Rattle.commands.specs.declared.Chosen.{Chosen}
-use Rattle.commands.specs.Commands.{chosen, width, call_from, Item, item_at, behind, items, script, cut_shape, parse, shape_bytes, shape_from}
+use Rattle.commands.specs.Commands.{Chosen, chosen, width, call_from, Item, item_at, behind, items, script, cut_shape, parse, shape_bytes, shape_from}
 use Rattle.commands.proofs.Items.{items_none}
 use Rattle.commands.proofs.Parts.{whole, call_part}
 use Rattle.output.specs.Output.{lent_columns, lent_ranges, lent_records, lent_spares, lent, shape_answer, goes_on, calls, lines_of, output_of, output}
@@ -25,7 +27,7 @@ use Rattle.loops.proofs.Search.{and_true, between_tells}
 -- ---- no answer of the plain history ends the program
 abbrev all_go_on : List Test → Bool
 all_go_on [] = true
-all_go_on (t ∷ ts) = goes_on (Answer.Refused t.refusal) && all_go_on ts
+all_go_on (t ∷ ts) = goes_on (Err t.refusal) && all_go_on ts
 
 verdict_goes_on : (ts : List Test) (a : Answer) → all_go_on ts ≡ true → goes_on a ≡ true → goes_on (answer_if (verdict ts) a) ≡ true
 unfolding verdict answer_if
@@ -36,11 +38,11 @@ verdict_goes_on (t ∷ ts) a p q =
 
 read_goes_on : (sees : ℕ → Bool) (h : History) (r c : ℕ) → goes_on (read sees h r c) ≡ true
 unfolding read shown goes_on
-read_goes_on sees h r c = elim (visible sees h r) as (λ b. goes_on (cond b (shown h (version_of sees h r c)) Answer.None) ≡ true) [ true ↦ refl | false ↦ refl ]
+read_goes_on sees h r c = elim (visible sees h r) as (λ b. goes_on (cond b (shown h (version_of sees h r c)) (Ok Fields.None)) ≡ true) [ true ↦ refl | false ↦ refl ]
 
 keeper_goes_on : (sees : ℕ → Bool) (h : History) (r c : ℕ) → goes_on (keeper_read sees h r c) ≡ true
 unfolding keeper_read goes_on
-keeper_goes_on sees h r c = elim (visible sees h r) as (λ b. goes_on (cond b (Answer.Number (keeper_of h (version_of sees h r c).setter)) Answer.None) ≡ true) [ true ↦ refl | false ↦ refl ]
+keeper_goes_on sees h r c = elim (visible sees h r) as (λ b. goes_on (cond b (Ok (Fields.Number (keeper_of h (version_of sees h r c).setter))) (Ok Fields.None)) ≡ true) [ true ↦ refl | false ↦ refl ]
 
 -- neither a refusal of a call nor its answer where it is accepted
 call_goes_on : (s : Shape) (h : History) (c : Call) → (all_go_on (tests s h c) ≡ true) × (goes_on (reply s h c) ≡ true)
@@ -84,8 +86,8 @@ printed s h is = lines_of is (outcomes s h (calls is))
 
 -- behind a refused byte nothing is left
 last_step : (most : ℕ) (s : Shape) (h : History) (byte : ℕ) (r : Refusal) (b : Bool) (k : History)
-    → line byte (Answer.Refused r) [] ++ cond b (steps most (history_of s) s.columns k []) []
-    ≡ line byte (Answer.Refused r) [] ++ printed s h (items most s.columns [])
+    → line byte (Err r) [] ++ cond b (steps most (history_of s) s.columns k []) []
+    ≡ line byte (Err r) [] ++ printed s h (items most s.columns [])
 unfolding lines_of
 last_step most s h byte r true k = rw (steps_none most (history_of s) s.columns k, items_none most s.columns)
 last_step most s h byte r false k = rw (items_none most s.columns)
@@ -97,8 +99,8 @@ one_step : (most : ℕ) (s : Shape) (h : History) (byte : ℕ) (bs : List ℕ) (
     (steps most (history_of s) s.columns (state_after (history_of s) s.columns h k (operands_of s.columns k bs)) (behind s.columns k bs)) []
     ≡ printed s h (item_at s.columns byte k bs ∷ items most s.columns (behind s.columns k bs))
 unfolding operands_of outcome_to state_after behind item_at lines_of calls outcomes
-one_step most s h byte bs (Chosen.Refused r) ih = last_step most s h byte r (goes_on (Answer.Refused r)) h
-one_step most s h byte bs (Chosen.Known f) ih = rw (whole (width s.columns f) bs) (go (leb (width s.columns f) (length bs)) refl)
+one_step most s h byte bs (Err r) ih = last_step most s h byte r (goes_on (Err r)) h
+one_step most s h byte bs (Ok f) ih = rw (whole (width s.columns f) bs) (go (leb (width s.columns f) (length bs)) refl)
   where
     w : ℕ
     w = width s.columns f
@@ -110,8 +112,8 @@ one_step most s h byte bs (Chosen.Known f) ih = rw (whole (width s.columns f) bs
     d = call_from s.columns f (take w bs)
 
     go : (b : Bool) → leb w (length bs) ≡ b
-        → line_of byte (cond b (outcome s h d) (alone (Answer.Refused Refusal.Cut)))
-        ++ cond (goes_on (cond b (outcome s h d) (alone (Answer.Refused Refusal.Cut))).answer) (steps most (history_of s) s.columns (cond b (next s h d) h) (drop w bs)) []
+        → line_of byte (cond b (outcome s h d) (alone (Err Refusal.Cut)))
+        ++ cond (goes_on (cond b (outcome s h d) (alone (Err Refusal.Cut))).answer) (steps most (history_of s) s.columns (cond b (next s h d) h) (drop w bs)) []
         ≡ printed s h (cond b (Item.command byte c) (Item.refused byte Refusal.Cut) ∷ items most s.columns (drop w bs))
     go true e =
         rw (call_part s.columns f bs (leb-true w (length bs) e), answer_goes_on s h c)
@@ -119,7 +121,7 @@ one_step most s h byte bs (Chosen.Known f) ih = rw (whole (width s.columns f) bs
     go false e =
         let short : length bs ≤ w = omega (arith, leb-false w (length bs) e) in
         let none : drop w bs ≡ [] = drop_of_length-le bs short in
-        rw none (last_step most s h byte Refusal.Cut (goes_on (Answer.Refused Refusal.Cut)) h)
+        rw none (last_step most s h byte Refusal.Cut (goes_on (Err Refusal.Cut)) h)
 
 steps_are : (most : ℕ) (s : Shape) (h : History) (bs : List ℕ) → steps most (history_of s) s.columns h bs ≡ printed s h (items most s.columns bs)
 unfolding steps items lines_of
@@ -129,7 +131,7 @@ steps_are (suc most) s h (byte ∷ bs) = one_step most s h byte bs (chosen byte)
 
 shape_step : (s : Shape) (l : List ℕ) → cond (goes_on (shape_answer s)) l [] ≡ cond (lent s) l []
 unfolding shape_answer goes_on
-shape_step s l = elim (lent s) as (λ b. cond (goes_on (cond b Answer.Done (Answer.Refused Refusal.Shape))) l [] ≡ cond b l []) [ true ↦ refl | false ↦ refl ]
+shape_step s l = elim (lent s) as (λ b. cond (goes_on (cond b (Ok Fields.Done) (Err Refusal.Shape))) l [] ≡ cond b l []) [ true ↦ refl | false ↦ refl ]
 
 pub written_is_output : (bs : List ℕ) → written bs ≡ output bs
 unfolding written lines_from output parse output_of goes_on
@@ -137,13 +139,13 @@ written_is_output bs =
     elim (leb shape_bytes (length bs)) as (λ b.
     shape_line (a b) ++ cond (goes_on (a b)) (steps (length bs) (history_of s) s.columns start (drop shape_bytes bs)) []
     ≡ output_of (cond b (script s (items (length bs) s.columns (drop shape_bytes bs))) cut_shape))
-    [ true ↦ rw (shape_step s, steps_are (length bs) s start (drop shape_bytes bs)) | false ↦ append-nil (shape_line (Answer.Refused Refusal.Cut)) ]
+    [ true ↦ rw (shape_step s, steps_are (length bs) s start (drop shape_bytes bs)) | false ↦ append-nil (shape_line (Err Refusal.Cut)) ]
   where
     s : Shape
     s = shape_from bs
 
     a : Bool → Answer
-    a b = cond b (shape_answer s) (Answer.Refused Refusal.Cut)
+    a b = cond b (shape_answer s) (Err Refusal.Cut)
 
 -- ---- what is lent, measure by measure, is within the limits of a shape
 pub lent_each : (s : Shape) → lent s ≡ true

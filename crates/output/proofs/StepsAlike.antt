@@ -7,13 +7,13 @@ use native.Mathlib.Omega.{arith}
 use lib.Dec.{T, leb}
 use lib.ListN.{length, take}
 use Rattle.terms.specs.declared.Refusal.{Refusal}
-use Rattle.terms.specs.declared.Answer.{Answer}
+use Rattle.std.specs.Prelude.{Ok, Err}
+use Rattle.terms.specs.Answers.{Answer}
 use Rattle.words.specs.Words.{Bytes}
 use Rattle.history.specs.History.{Call, Outcome, alone}
 use Rattle.history.specs.Forms.{form_use, in_place}
 use Rattle.history.specs.Lists.{All}
-use Rattle.commands.specs.declared.Chosen.{Chosen}
-use Rattle.commands.specs.Commands.{chosen, width, call_from, behind}
+use Rattle.commands.specs.Commands.{Chosen, chosen, width, call_from, behind}
 use Rattle.commands.proofs.Uses.{command_in_place}
 use Rattle.output.specs.Output.{goes_on}
 use Rattle.model.specs.Calls.{Typed}
@@ -46,15 +46,15 @@ module _ {A B : Type 0} (m : Machine A) (n : Machine B) where
       × Alike m n (state_after m columns x k (operands_of columns k bs)) (state_after n columns y k (operands_of columns k bs))
       × Bytes (behind columns k bs)
   unfolding operands_of outcome_to state_after behind
-  command_alike byte columns x y (Chosen.Known f) bs e b a =
+  command_alike byte columns x y (Ok f) bs e b a =
       let os = take (width columns f) bs in
       let c = call_from columns f os in
       let t : Commanded c = (typed byte columns f os e (bytes_take (width columns f) bs b), command_in_place columns f os) in (
-        ap (λ (z : Outcome Answer). cond (leb (width columns f) (length os)) z (alone (Answer.Refused Refusal.Cut))) (alike_now m n x y c a t),
+        ap (λ (z : Outcome Answer). cond (leb (width columns f) (length os)) z (alone (Err Refusal.Cut))) (alike_now m n x y c a t),
         elim (leb (width columns f) (length os)) as (λ w. Alike m n (cond w (m.next x c) x) (cond w (n.next y c) y)) [ true ↦ alike_next m n x y c a t | false ↦ a ],
         bytes_drop (width columns f) bs b,
       )
-  command_alike byte columns x y (Chosen.Refused r) bs e b a = (refl, a, λ k. omega arith)
+  command_alike byte columns x y (Err r) bs e b a = (refl, a, λ k. omega arith)
 
   -- all of them
   pub steps_alike : (most columns : ℕ) (x : A) (y : B) (bs : List ℕ) → Bytes bs → Alike m n x y → steps most m columns x bs ≡ steps most n columns y bs

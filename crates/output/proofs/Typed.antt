@@ -9,13 +9,13 @@ use lib.Seq.{get_or-drop}
 use mir.Syntax.{w32}
 use mir.Val.{to_z, SFits}
 use mir.ValLaws.{to_z-Fits}
+use Rattle.std.specs.Prelude.{Ok, Err}
 use Rattle.words.specs.Words.{words, Bytes, Fit}
 use Rattle.words.proofs.Words.{words_fit, take_fit, front_bytes}
 use Rattle.history.specs.Lists.{All}
 use Rattle.model.specs.Calls.{Typed, Values}
 use Rattle.commands.specs.declared.Format.{Format}
-use Rattle.commands.specs.declared.Chosen.{Chosen}
-use Rattle.commands.specs.Commands.{little_endian, operand, operands, values, read_of, write_of, call_of, call_from, chosen, commands}
+use Rattle.commands.specs.Commands.{Chosen, little_endian, operand, operands, values, read_of, write_of, call_of, call_from, chosen, commands}
 use Rattle.commands.proofs.Table.{chosen_each}
 
 -- ---- numbers in bytes
@@ -48,8 +48,8 @@ values_fit n k bs b = all_fit (take n (words (drop k bs))) (take_fit n (words (d
 
 -- ---- every command of the table
 abbrev TypedForm : Chosen → Type 0
-TypedForm (Chosen.Known f) = (columns : ℕ) (os : List ℕ) → Bytes os → Typed (call_from columns f os)
-TypedForm (Chosen.Refused r) = Unit {0}
+TypedForm (Ok f) = (columns : ℕ) (os : List ℕ) → Bytes os → Typed (call_from columns f os)
+TypedForm (Err r) = Unit {0}
 
 module _ (os : List ℕ) (b : Bytes os) where
   one : (at : ℕ) → operand at 1 os < 4294967296
@@ -97,7 +97,7 @@ each_typed =
     & (λ columns os b. (four os b 0, two os b 4, one os b 6))
     & All.nil
 
-pub typed : (byte columns : ℕ) (f : Format) (os : List ℕ) → chosen byte ≡ Chosen.Known f → Bytes os → Typed (call_from columns f os)
+pub typed : (byte columns : ℕ) (f : Format) (os : List ℕ) → chosen byte ≡ Ok f → Bytes os → Typed (call_from columns f os)
 typed byte columns f os e b =
-    let t : TypedForm (Chosen.Known f) = rw e at (chosen_each TypedForm each_typed tt byte) in
+    let t : TypedForm (Ok f) = rw e at (chosen_each TypedForm each_typed tt byte) in
     t columns os b

@@ -4,14 +4,14 @@ use mathlib.Core.List.{[], ◌∷◌, ◌++◌}
 use Rattle.history.specs.Unfolding.{execution}
 use Rattle.words.specs.Words.{words}
 use Rattle.decimal.specs.Decimal.{text, digits, decimal, signed}
-use Rattle.lines.specs.Lines.{capitals, fields, outcome, line, shape_line}
+use Rattle.lines.specs.Lines.{capitals, fields, after_ok, outcome, line, shape_line}
 use Rattle.commands.specs.Commands.{commands, chosen, little_endian, operand, operands, values, read_of, write_of, call_of, call_from, item_at, behind, items, shape_from, parse}
 use Rattle.output.specs.Output.{lent, shape_answer, goes_on, calls, lines_of, output_of, output}
 use Rattle.output.specs.Example.{shape, example, lines}
 
 -- all that an output computes by
 unfoldable computing : Unit {0}
-unfolding execution words digits decimal signed capitals fields outcome line shape_line commands chosen little_endian operand operands values read_of write_of call_of call_from item_at behind items shape_from parse lent shape_answer goes_on calls lines_of output_of output
+unfolding execution words digits decimal signed capitals fields after_ok outcome line shape_line commands chosen little_endian operand operands values read_of write_of call_of call_from item_at behind items shape_from parse lent shape_answer goes_on calls lines_of output_of output
 computing = tt
 
 pub worked_example : output example ≡ lines

@@ -1,10 +1,13 @@
 -- What `gatebook` must write for an input: section 12 of docs/SPECIFICATION.md. The input is parsed, the plain history answers its calls, and each outcome is a line.
 -- Every definition here is executable.
 use Rattle.std.specs.Prelude.{Bool, true, cond, not, ◌&&◌, ◌||◌, List, [], ◌∷◌, ◌++◌, ℕ}
-use Rattle.terms.specs.Measures.{Shape, between}
+use Rattle.terms.specs.Measures.{between}
+use Rattle.terms.specs.declared.Shape.{Shape}
 use Rattle.terms.specs.Refusals.{refusal_number}
 use Rattle.terms.specs.declared.Refusal.{Refusal}
-use Rattle.terms.specs.declared.Answer.{Answer}
+use Rattle.std.specs.Prelude.{Ok, Err}
+use Rattle.terms.specs.Answers.{Answer}
+use Rattle.terms.specs.declared.Fields.{Fields}
 use Rattle.history.specs.History.{Call, Outcome, start, outcomes}
 use Rattle.lines.specs.Lines.{line, shape_line}
 use Rattle.commands.specs.Commands.{Item, command, refused, Script, cut_shape, script, parse}
@@ -29,19 +32,12 @@ lent s =
 
 -- what the shape is answered
 unfoldable pub shape_answer : Shape → Answer
-shape_answer s = cond (lent s) Answer.Done (Answer.Refused Refusal.Shape)
+shape_answer s = cond (lent s) (Ok Fields.Done) (Err Refusal.Shape)
 
 -- 12.7: whether gatebook goes on after an answer, as it does after all but 1, 19 and 20
 unfoldable pub goes_on : Answer → Bool
-goes_on (Answer.Refused r) = not (between 1 1 (refusal_number r) || between 19 20 (refusal_number r))
-goes_on Answer.Done = true
-goes_on (Answer.Number n) = true
-goes_on (Answer.Version v s) = true
-goes_on (Answer.Value v) = true
-goes_on Answer.None = true
-goes_on (Answer.Sum n s) = true
-goes_on (Answer.Lineage n used) = true
-goes_on (Answer.Listed n) = true
+goes_on (Ok f) = true
+goes_on (Err r) = not (between 1 1 (refusal_number r) || between 19 20 (refusal_number r))
 
 -- the calls among the items
 unfoldable pub calls : List Item → List Call
@@ -54,10 +50,10 @@ unfoldable pub lines_of : List Item → List (Outcome Answer) → List ℕ
 lines_of [] given = []
 lines_of (command byte c ∷ is) [] = []
 lines_of (command byte c ∷ is) (o ∷ given) = line byte o.answer o.stamps ++ lines_of is given
-lines_of (refused byte r ∷ is) given = line byte (Answer.Refused r) [] ++ lines_of is given
+lines_of (refused byte r ∷ is) given = line byte (Err r) [] ++ lines_of is given
 
 unfoldable pub output_of : Script → List ℕ
-output_of cut_shape = shape_line (Answer.Refused Refusal.Cut)
+output_of cut_shape = shape_line (Err Refusal.Cut)
 output_of (script s is) =
     shape_line (shape_answer s) ++ cond (lent s) (lines_of is (outcomes s start (calls is))) []
 

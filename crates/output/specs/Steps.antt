@@ -3,28 +3,28 @@
 -- proofs/Steps.antt has the theorem that with the plain history this is `output`.
 use Rattle.std.specs.Prelude.{Bool, cond, List, [], ◌∷◌, ◌++◌, ℕ, zero, suc, leb, length, take, drop}
 use Rattle.terms.specs.declared.Refusal.{Refusal}
-use Rattle.terms.specs.declared.Answer.{Answer}
+use Rattle.std.specs.Prelude.{Ok, Err}
+use Rattle.terms.specs.Answers.{Answer}
 use Rattle.history.specs.History.{Outcome, alone, start}
 use Rattle.lines.specs.Lines.{line, shape_line}
-use Rattle.commands.specs.declared.Chosen.{Chosen}
-use Rattle.commands.specs.Commands.{chosen, width, call_from, behind, shape_bytes, shape_from}
+use Rattle.commands.specs.Commands.{Chosen, chosen, width, call_from, behind, shape_bytes, shape_from}
 use Rattle.output.specs.Output.{shape_answer, goes_on}
 use Rattle.model.specs.Machine.{Machine, history_of}
 
 -- the bytes that are read behind a command byte: its operands, or as many as there are
 unfoldable pub operands_of : ℕ → Chosen → List ℕ → List ℕ
-operands_of columns (Chosen.Known f) bs = take (width columns f) bs
-operands_of columns (Chosen.Refused r) bs = []
+operands_of columns (Ok f) bs = take (width columns f) bs
+operands_of columns (Err r) bs = []
 
 -- The outcome of a command byte with the operands os, and the state after it. A cut command does nothing.
 unfoldable pub outcome_to : {State : Type 0} → Machine State → ℕ → State → Chosen → List ℕ → Outcome Answer
-outcome_to m columns x (Chosen.Known f) os =
-    cond (leb (width columns f) (length os)) (m.outcome x (call_from columns f os)) (alone (Answer.Refused Refusal.Cut))
-outcome_to m columns x (Chosen.Refused r) os = alone (Answer.Refused r)
+outcome_to m columns x (Ok f) os =
+    cond (leb (width columns f) (length os)) (m.outcome x (call_from columns f os)) (alone (Err Refusal.Cut))
+outcome_to m columns x (Err r) os = alone (Err r)
 
 unfoldable pub state_after : {State : Type 0} → Machine State → ℕ → State → Chosen → List ℕ → State
-state_after m columns x (Chosen.Known f) os = cond (leb (width columns f) (length os)) (m.next x (call_from columns f os)) x
-state_after m columns x (Chosen.Refused r) os = x
+state_after m columns x (Ok f) os = cond (leb (width columns f) (length os)) (m.next x (call_from columns f os)) x
+state_after m columns x (Err r) os = x
 
 -- One step: the line, whether the program goes on, and in what state.
 pub record Step (State : Type 0) : Type 0 where
@@ -59,7 +59,7 @@ lines_from a m columns x bs = shape_line a ++ cond (goes_on a) (steps (length bs
 unfoldable pub written : List ℕ → List ℕ
 written bs =
     lines_from
-    (cond (leb shape_bytes (length bs)) (shape_answer (shape_from bs)) (Answer.Refused Refusal.Cut))
+    (cond (leb shape_bytes (length bs)) (shape_answer (shape_from bs)) (Err Refusal.Cut))
     (history_of (shape_from bs))
     (shape_from bs).columns
     start

@@ -2,12 +2,9 @@
 #![tactic(auto)]
 
 ghost use Rattle.std.specs.Prelude.{◌≡◌};
-ghost use Rattle.commands.specs.Decoded.{measured};
 ghost use Rattle.output.specs.Output.{goes_on, lent};
 
-use commands::Measures;
-use loops::{and_between, either};
-use terms::{Answer, number};
+use terms::{Answer, Refusal, Shape};
 
 // The largest shape that memory is lent for.
 const LENT_COLUMNS: u32 = 4;
@@ -19,25 +16,23 @@ const LENT_RECORDS: u32 = 64;
 const LENT_SPARES: u32 = 16;
 
 // The shapes that gatebook has memory for (rule 12.4 of docs/SPECIFICATION.md).
-pub fn lends(m: Measures) -> bool
-    ensures { result ≡ lent (measured m) }
+#[tactic(auto, unfolding(crate::specs::Output::lent))]
+pub fn lends(shape: Shape) -> bool
+    ensures { result ≡ lent shape }
 {
-    let columns = and_between(true, 1, LENT_COLUMNS, m.columns);
-    let ranges = and_between(columns, 1, LENT_RANGES, m.ranges);
-    let capacity = and_between(ranges, 1, LENT_RECORDS, m.capacity);
-    and_between(capacity, 0, LENT_SPARES, m.spares)
+    (1..=LENT_COLUMNS).contains(&shape.columns)
+        && (1..=LENT_RANGES).contains(&shape.ranges)
+        && (1..=LENT_RECORDS).contains(&shape.capacity)
+        && shape.spares <= LENT_SPARES
 }
 
 // Whether gatebook goes on after an answer (rule 12.7).
+#[tactic(auto, unfolding(crate::specs::Output::goes_on))]
 pub fn goes_on(answer: Answer) -> bool
     ensures { result ≡ goes_on answer }
 {
-    match answer {
-        Answer::Refused(why) => {
-            let n = number(why);
-            let of_shape = and_between(true, 1, 1, n);
-            !either(of_shape, and_between(true, 19, 20, n))
-        }
-        _ => true,
-    }
+    !matches!(
+        answer,
+        Err(Refusal::Shape | Refusal::Command | Refusal::Cut)
+    )
 }

@@ -1,4 +1,3 @@
--- Laws of the pages' facts, and the answers of the test of all facts.
+-- Laws of the pages' facts.
 pub mod Inverse
 pub mod Waiting
-pub mod Answers

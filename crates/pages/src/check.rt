@@ -1,5 +1,7 @@
 // The test that every call on a store makes first: whether the lent memory and the table of open scans are usable. The lengths and measures are tested
 // first, then the counts: from there on each access lies within the memory. Then it looks at given rows, used tail records and the pages.
+#![tactic(auto, using(facts::proofs::Ready::ready, scans::proofs::Table::table_length), unfolding(crate::specs::Checked::measured, crate::specs::Checked::checked, crate::specs::Checked::roomy, facts::specs::Usable::usable, facts::specs::Usable::measures_hold, facts::specs::Usable::stored_sizes, facts::specs::Usable::stored_form, facts::specs::Usable::stored_shape))]
+
 ghost use Rattle.std.specs.Prelude.{◌≡◌, true, List, ◌*◌, length};
 ghost use Rattle.terms.specs.declared.ScanEntry.{ScanEntry};
 ghost use Rattle.layout.specs.Sizes.{Proper};
@@ -18,15 +20,9 @@ use layout::{
 use loops::both;
 use records::{ranges_hold, rows_hold};
 use scans::Scans;
+use terms::Shape;
 use terms::limits::MOST_SCANS;
 use words::get;
-
-// What the test finds: the sizes of the store, or that the memory is not usable.
-#[derive(Clone, Copy)]
-pub enum Checked {
-    Fit(Sizes),
-    Unfit,
-}
 
 const MEASURES_BYTES: usize = 16;
 
@@ -49,45 +45,31 @@ fn facts_hold(mem: &[u8], s: Sizes, t: Scans) -> bool
 }
 
 // The sizes of the store that a memory holds, if it is in a form that calls work on, its measures are there and within their limits and it has the bytes that they need.
-fn measure(mem: &[u8]) -> Checked
+fn measure(mem: &[u8]) -> Option<Sizes>
     ensures { result ≡ measured mem.now }
 {
     if mem.len() < MEASURES_BYTES {
-        return Checked::Unfit;
+        return None;
     }
     let word = get(mem, HEADER_COLUMNS);
-    if !form_known(word) {
-        return Checked::Unfit;
+    let shape = Shape {
+        columns: word % FORM_UNIT,
+        ranges: get(mem, HEADER_RANGES),
+        capacity: get(mem, HEADER_CAPACITY),
+        spares: get(mem, HEADER_SPARES),
+    };
+    if !form_known(word) || !within_limits(shape) {
+        return None;
     }
-    let form = form_in(word);
-    let columns = word % FORM_UNIT;
-    let ranges = get(mem, HEADER_RANGES);
-    let capacity = get(mem, HEADER_CAPACITY);
-    let spares = get(mem, HEADER_SPARES);
-    if !within_limits(columns, ranges, capacity, spares) {
-        return Checked::Unfit;
-    }
-    let s = sizes_of(form, columns, ranges, capacity, spares);
-    if mem.len() < words_needed(s) * 4 {
-        return Checked::Unfit;
-    }
-    Checked::Fit(s)
+    let s = sizes_of(form_in(word), shape);
+    (words_needed(s) * 4 <= mem.len()).then_some(s)
 }
 
-// Whether a memory is usable with the scan list that a table stands for, and its sizes.
-pub fn check(mem: &[u8], t: Scans) -> Checked
+// The sizes of the store that a memory holds, if it is usable with the scan list that a table stands for.
+pub fn check(mem: &[u8], t: Scans) -> Option<Sizes>
     ensures value { (ps : List ScanEntry) → t ≡ table_of ps → result ≡ checked mem.now ps }
     ensures safe { Safe result mem.now }
 {
-    let Checked::Fit(s) = measure(mem) else {
-        return Checked::Unfit;
-    };
-    if t.length < MOST_SCANS {
-        return Checked::Unfit;
-    }
-    if facts_hold(mem, s, t) {
-        Checked::Fit(s)
-    } else {
-        Checked::Unfit
-    }
+    let s = measure(mem)?;
+    (t.length >= MOST_SCANS && facts_hold(mem, s, t)).then_some(s)
 }

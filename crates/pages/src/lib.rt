@@ -1,5 +1,5 @@
 // The test of the stored facts of the current and the waiting pages, and with it that of all stored facts (check.rt).
-#![tactic(auto)]
+#![tactic(auto, unfolding(facts::specs::Facts::current_at_most, facts::specs::Facts::waiting_at_most, facts::specs::Facts::chunk_current, facts::specs::Facts::current_lineage, facts::specs::Facts::waiting_lineage, facts::specs::Tests::current_holds, facts::specs::Tests::pages_hold))]
 
 pub mod check;
 
@@ -11,6 +11,7 @@ ghost use Rattle.facts.specs.Facts.{each, waiting_at_most, waiting_lineage};
 ghost use Rattle.facts.specs.Tests.{Ready, current_holds, waiting_hold, pages_hold};
 ghost use Rattle.pages.specs.Inverse.{inverse_of, most_inverse};
 
+use facts::flags::each;
 use layout::codes::{PAGE_CURRENT, PAGE_WAITING};
 use layout::{HEADER_MERGES, HEADER_STAMP, Region, Sizes};
 use loops::{both, either};
@@ -60,14 +61,7 @@ fn currents_hold(mem: &[u8], s: Sizes) -> bool
 {
     let inverse = inverse_of(s.columns);
     let last = read(mem, s, Region::Header, HEADER_STAMP);
-    let n = s.chunks;
-    let mut ok = true;
-    let mut i = 0;
-    while i < n {
-        ok = both(ok, current_holds(mem, s, inverse, last, i));
-        i += 1;
-    }
-    ok
+    each(s.chunks, |i| current_holds(mem, s, inverse, last, i))
 }
 
 // Whether word k of a page is at most a number, if the page waits. Both words are read, so that the loop vectorises.
@@ -86,14 +80,7 @@ fn all_waiting_at_most(mem: &[u8], s: Sizes, k: Region, most: u32) -> bool
     requires k_value { len s k ≡ s.pages }
     ensures { result ≡ each s.pages (waiting_at_most (view_of s mem.now) k most) }
 {
-    let n = s.pages;
-    let mut ok = true;
-    let mut p = 0;
-    while p < n {
-        ok = both(ok, waiting_at_most(mem, s, k, most, p));
-        p += 1;
-    }
-    ok
+    each(s.pages, |p| waiting_at_most(mem, s, k, most, p))
 }
 
 // A word modulo the chunks. A division only where it is needed: a chunk that the store has written is below them.
@@ -122,14 +109,7 @@ fn waiting_lineages(mem: &[u8], s: Sizes) -> bool
     ensures { result ≡ each s.pages (waiting_lineage s (view_of s mem.now)) }
 {
     let inverse = inverse_of(s.columns);
-    let n = s.pages;
-    let mut ok = true;
-    let mut p = 0;
-    while p < n {
-        ok = both(ok, waiting_lineage(mem, s, inverse, p));
-        p += 1;
-    }
-    ok
+    each(s.pages, |p| waiting_lineage(mem, s, inverse, p))
 }
 
 // The facts of the waiting pages. Often none waits, which one look at the states tells.

@@ -5,7 +5,7 @@ use mathlib.Core.Bool.{Bool, true, false, cond}
 use mathlib.Core.List.{List, []}
 use lib.Dec.{T}
 use Rattle.terms.specs.Refusals.{is_accepted}
-use Rattle.terms.specs.declared.Answer.{Answer}
+use Rattle.terms.specs.Answers.{Answer}
 use Rattle.terms.specs.declared.ScanEntry.{ScanEntry}
 use Rattle.history.specs.History.{Call, Verdict, accept, refuse, none, slice_of, alone, stamps_if}
 use Rattle.history.specs.Forms.{FormUse, either, newest, moving, form_use, in_place}

@@ -6,9 +6,12 @@ use mathlib.Core.List.{List, ◌∷◌}
 use lib.Dec.{T, leb}
 use lib.ListN.{length}
 use Rattle.model.specs.Writing.{made_view}
-use Rattle.terms.specs.Measures.{Shape, within_limits, most_scans}
+use Rattle.terms.specs.Measures.{within_limits, most_scans}
+use Rattle.terms.specs.declared.Shape.{Shape}
 use Rattle.terms.specs.Refusals.{is_refused}
-use Rattle.terms.specs.declared.Answer.{Answer}
+use Rattle.std.specs.Prelude.{Ok, Err}
+use Rattle.terms.specs.Answers.{Answer}
+use Rattle.terms.specs.declared.Fields.{Fields}
 use Rattle.terms.specs.declared.Form.{Form}
 use Rattle.terms.specs.declared.ScanEntry.{ScanEntry}
 use Rattle.terms.specs.declared.Refusal.{Refusal}
@@ -42,7 +45,7 @@ record Enough (F : Form) (S : Shape) (m : List ℕ) (ps : List ScanEntry) : Type
   entries : most_scans ≤ length ps
   laid : memory_made F S m ps ≡ lay (sizes_of F S) (made_view F S) m
 
-both_passed : (b c : Bool) (l k : List ℕ) → (cond {A = Answer × List ℕ} b (cond c (Answer.Done, l) (Answer.Refused Refusal.Memory, k)) (Answer.Refused Refusal.Shape, k)).0 ≡ Answer.Done → T b × T c
+both_passed : (b c : Bool) (l k : List ℕ) → (cond {A = Answer × List ℕ} b (cond c (Ok Fields.Done, l) (Err Refusal.Memory, k)) (Err Refusal.Shape, k)).0 ≡ Ok Fields.Done → T b × T c
 both_passed true true l k e = (tt, tt)
 both_passed true false l k e = clash (cc)
 both_passed false c l k e = clash (cc)
@@ -70,7 +73,7 @@ from_making : (F : Form) (S : Shape) (m : List ℕ) (ps : List ScanEntry) → Ac
 from_making F S m ps a = let e = enough F S m ps a in rw e.laid (made_starts F S m ps e.within e.room e.entries)
 
 -- and is usable, with a scan list whose entries were all freed
-pub made_then_usable : (F : Form) (S : Shape) (m : List ℕ) (qs : List ScanEntry) → (made F S (length qs) m).0 ≡ Answer.Done → usable (made F S (length qs) m).1 (made_list qs) ≡ true
+pub made_then_usable : (F : Form) (S : Shape) (m : List ℕ) (qs : List ScanEntry) → (made F S (length qs) m).0 ≡ Ok Fields.Done → usable (made F S (length qs) m).1 (made_list qs) ≡ true
 made_then_usable F S m qs e = represents_usable (from_making F S m qs e)
 
 -- ---- demand 3

@@ -8,10 +8,13 @@ use native.Mathlib.Omega.{arith}
 use lib.Dec.{T, leb}
 use lib.ListN.{length, get_or}
 use lib.Seq.{ext_get_or}
-use Rattle.terms.specs.Measures.{Shape, within_limits, most_scans}
+use Rattle.terms.specs.Measures.{within_limits, most_scans}
+use Rattle.terms.specs.declared.Shape.{Shape}
 use Rattle.terms.specs.Entries.{free_entry}
 use Rattle.terms.specs.declared.ScanEntry.{ScanEntry}
-use Rattle.terms.specs.declared.Answer.{Answer}
+use Rattle.std.specs.Prelude.{Ok, Err}
+use Rattle.terms.specs.Answers.{Answer}
+use Rattle.terms.specs.declared.Fields.{Fields}
 use Rattle.terms.specs.declared.Refusal.{Refusal}
 use Rattle.words.specs.Words.{words}
 use Rattle.words.proofs.Words.{length_words}
@@ -112,8 +115,8 @@ merge_changes_only m ps g c n b =
 pub making_changes_only : MakingChangesOnly
 unfolding MakingChangesOnly MakingWithin made bytes_needed
 making_changes_only F S m ps =
-    by_test (λ u. MakingWithin F S m (cond {A = Answer × List ℕ} u (cond enough (Answer.Done, lay (sizes_of F S) (made_view F S) m) (Answer.Refused Refusal.Memory, m)) (Answer.Refused Refusal.Shape, m)).1) (within_limits S)
-    (λ w. by_test (λ u. MakingWithin F S m (cond {A = Answer × List ℕ} u (Answer.Done, lay (sizes_of F S) (made_view F S) m) (Answer.Refused Refusal.Memory, m)).1) enough (λ t. laid w (simp (both_test, le_test) at t)) (λ _. same)) (λ _. same)
+    by_test (λ u. MakingWithin F S m (cond {A = Answer × List ℕ} u (cond enough (Ok Fields.Done, lay (sizes_of F S) (made_view F S) m) (Err Refusal.Memory, m)) (Err Refusal.Shape, m)).1) (within_limits S)
+    (λ w. by_test (λ u. MakingWithin F S m (cond {A = Answer × List ℕ} u (Ok Fields.Done, lay (sizes_of F S) (made_view F S) m) (Err Refusal.Memory, m)).1) enough (λ t. laid w (simp (both_test, le_test) at t)) (λ _. same)) (λ _. same)
   where
     enough : Bool
     enough = leb (bytes_needed F S) (length m) && leb most_scans (length ps)

@@ -10,9 +10,11 @@ use lib.Dec.{T, leb, leb→le, eqb}
 use lib.ListN.{length, get_or, take, drop, replicate}
 use lib.Seq.{take_at, drop_at}
 use borrow.Author.Tests.{le-leb, eqb-true}
-use Rattle.terms.specs.Measures.{Shape, range_rows, most_columns, most_scans, most_transactions}
+use Rattle.terms.specs.Measures.{range_rows, most_columns, most_scans, most_transactions}
+use Rattle.terms.specs.declared.Shape.{Shape}
 use Rattle.terms.specs.Refusals.{is_refused, is_accepted}
-use Rattle.terms.specs.declared.Answer.{Answer}
+use Rattle.std.specs.Prelude.{Ok, Err}
+use Rattle.terms.specs.declared.Fields.{Fields}
 use Rattle.terms.specs.declared.Form.{Form}
 use Rattle.terms.specs.declared.ScanEntry.{ScanEntry}
 use Rattle.terms.specs.declared.Refusal.{Refusal}
@@ -140,15 +142,15 @@ laid_seen s m l b h =
     laid_front s (view_of s m) (view_long s (words m) (omega (arith, length_words m))) l ∙ ap bytes (view_join s (words m)) ∙ bytes_words (need s) m b h
 
 -- ---- a move that is done was admitted
-done_admits : (x : Lent) (c : Call) → answer_of x c ≡ Answer.Done → T (admits x c)
+done_admits : (x : Lent) (c : Call) → answer_of x c ≡ Ok Fields.Done → T (admits x c)
 unfolding answer_of
 done_admits x c =
-    by_test (λ u. cond u (say (shape x.memory) (store_view x.memory) x.list c) (Answer.Refused Refusal.Memory) ≡ Answer.Done → T u) (admits x c)
+    by_test (λ u. cond u (say (shape x.memory) (store_view x.memory) x.list c) (Err Refusal.Memory) ≡ Ok Fields.Done → T u) (admits x c)
     (λ _ _. tt) (λ _ e. absurd (true≢false (ap is_refused e)))
 
 -- and one that is admitted and passes its tests is done, and lays the view moved
 module _ (F : Form) (m : List ℕ) (ps : List ScanEntry) (second : List ℕ) (t : T (admits (lend m ps) (move F second))) (passed : verdict (move_tests_in F (shape m) (store_view m)) ≡ accept) where
-  move_done : answer_of (lend m ps) (move F second) ≡ Answer.Done
+  move_done : answer_of (lend m ps) (move F second) ≡ Ok Fields.Done
   unfolding answer_of say tests_in answer_if reply_in
   move_done = rw (is_true (admits (lend m ps) (move F second)) t, passed)
 
@@ -282,7 +284,7 @@ module _ {m second : List ℕ} {ps : List ScanEntry} (fits : Bytes m) (t : Movin
     unfolding verdict move_tests_in
     back_passed = rw (there_shape fits t, there_seen fits t, no_keeper (shape m) (store_view m))
 
-    back_done : answer_of (lend (there fits t) ps) (move Form.First third) ≡ Answer.Done
+    back_done : answer_of (lend (there fits t) ps) (move Form.First third) ≡ Ok Fields.Done
     back_done = move_done Form.First (there fits t) ps third back_admitted back_passed
 
     back_lays : second_after (lend (there fits t) ps) (move Form.First third) ≡ lay (sizes_of Form.First (shape m)) (store_view m) third

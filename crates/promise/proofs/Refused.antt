@@ -4,9 +4,11 @@ use mathlib.Core.Bool.{Bool, true, false, cond, true≢false, ◌&&◌}
 use mathlib.Core.List.{List}
 use Prim.Native.Nat.{ℕ}
 use lib.Dec.{T}
-use Rattle.terms.specs.Measures.{Shape}
+use Rattle.terms.specs.declared.Shape.{Shape}
 use Rattle.terms.specs.Refusals.{is_refused, is_accepted}
-use Rattle.terms.specs.declared.Answer.{Answer}
+use Rattle.std.specs.Prelude.{Ok, Err}
+use Rattle.terms.specs.Answers.{Answer}
+use Rattle.terms.specs.declared.Fields.{Fields}
 use Rattle.terms.specs.declared.ScanEntry.{ScanEntry}
 use Rattle.terms.specs.declared.Refusal.{Refusal}
 use Rattle.words.specs.Words.{words}
@@ -24,7 +26,7 @@ use Rattle.promise.specs.Promise.{Lent, lend, store_view, second_of, room_for, a
 use Rattle.promise.specs.Demands.{RefusedKeeps}
 
 -- no accepted call answers a refusal
-read_not : (b : Bool) (a : Answer) → is_refused a ≡ false → is_refused (cond b a Answer.None) ≡ false
+read_not : (b : Bool) (a : Answer) → is_refused a ≡ false → is_refused (cond b a (Ok Fields.None)) ≡ false
 read_not true a e = e
 read_not false a e = refl
 
@@ -53,7 +55,7 @@ not_refused S v ps (move to second) = refl
 not_refused S v ps (keeper_at s r c) = read_not (visible_in S v _ r) _ refl
 
 -- so an answer that is a refusal is the verdict's
-pub refused_by : (S : Shape) (v : View) (ps : List ScanEntry) (c : Call) (w : Verdict) {n : Refusal} → answer_if w (reply_in S v ps c) ≡ Answer.Refused n → w ≡ refuse n
+pub refused_by : (S : Shape) (v : View) (ps : List ScanEntry) (c : Call) (w : Verdict) {n : Refusal} → answer_if w (reply_in S v ps c) ≡ Err n → w ≡ refuse n
 unfolding answer_if
 refused_by S v ps c accept e = absurd (true≢false (sym (ap is_refused e) ∙ not_refused S v ps c))
 refused_by S v ps c (refuse r) e = cc
@@ -75,7 +77,7 @@ unlaid (moving to) S v l = refl
 pub refused_keeps : RefusedKeeps
 unfolding RefusedKeeps answer_of memory_after list_after stamps_left second_after say view_next entries_next stamps_next view_if entries_if stamps_if answer_if store_view
 refused_keeps m ps c n b =
-    by_test (λ u. cond u (say S v ps c) (Answer.Refused Refusal.Memory) ≡ Answer.Refused n
+    by_test (λ u. cond u (say S v ps c) (Err Refusal.Memory) ≡ Err n
     → (cond u (lay s (view_next S v ps c) m) m ≡ m) × (cond u (entries_next S v ps c) ps ≡ ps) × (cond u (stamps_next S v ps c) (lent_to (slice_of c)) ≡ lent_to (slice_of c))
     × (cond u (laid_into (form_use c) (is_accepted (say S v ps c)) S (store_next S v ps c) (second_of c)) (second_of c) ≡ second_of c)) (admits (lend m ps) c)
     (λ t e. rw (refused_by S v ps c (verdict (tests_in S v ps c)) e) (lay_view s m b (usable_tells m ps (admitted_usable (lend m ps) c t)).room, refl, refl, unlaid (form_use c) S (store_next S v ps c) (second_of c))) (λ _ e. (refl, refl, refl, refl))

@@ -8,7 +8,8 @@ use native.Mathlib.Nat.{zero-add}
 use lib.Dec.{T, leb→le}
 use lib.ListN.{length, get_or, drop, length-append, length-drop}
 use borrow.Author.Tests.{le-leb}
-use Rattle.terms.specs.Measures.{Shape, within_limits, most_scans}
+use Rattle.terms.specs.Measures.{within_limits, most_scans}
+use Rattle.terms.specs.declared.Shape.{Shape}
 use Rattle.terms.specs.Refusals.{is_accepted}
 use Rattle.terms.specs.declared.Form.{Form}
 use Rattle.terms.specs.declared.Refusal.{Refusal}

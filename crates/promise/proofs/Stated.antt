@@ -12,10 +12,12 @@ use native.Mathlib.Decide.{ℕ_discrete}
 use lib.Dec.{T, T_not, not_T, leb, ltb, eqb, eqb→eq, leb→le, ltb→lt, nleb→lt, nltb→le}
 use lib.ListN.{length, get_or}
 use lib.Pow.{pow_pos, shr-shr}
-use Rattle.terms.specs.Measures.{Shape, most_transactions}
+use Rattle.terms.specs.Measures.{most_transactions}
+use Rattle.terms.specs.declared.Shape.{Shape}
 use Rattle.terms.specs.Entries.{free_entry, bears, first_index}
 use Rattle.terms.specs.Refusals.{is_refused}
-use Rattle.terms.specs.declared.Answer.{Answer}
+use Rattle.std.specs.Prelude.{Err}
+use Rattle.terms.specs.Answers.{Answer}
 use Rattle.terms.specs.declared.ScanEntry.{ScanEntry}
 use Rattle.terms.specs.declared.Refusal.{Refusal}
 use Rattle.terms.specs.declared.Form.{Form}
@@ -340,7 +342,7 @@ refuses m ps c = go (works_on c (stored_form (words m))) (room_for (form_use c) 
     v = store_view m
 
     said : Bool → Answer
-    said u = cond u (answer_if (verdict (tests_in S v ps c)) (reply_in S v ps c)) (Answer.Refused Refusal.Memory)
+    said u = cond u (answer_if (verdict (tests_in S v ps c)) (reply_in S v ps c)) (Err Refusal.Memory)
 
     short : Type 0
     short = TooShort (form_use c) S (second_of c)
@@ -349,9 +351,9 @@ refuses m ps c = go (works_on c (stored_form (words m))) (room_for (form_use c) 
     clauses w u = Refusal.Memory on (u ≡ false) ∷ Refusal.Memory on (w ≡ false) ∷ Refusal.Memory on short ∷ stated S v ps c
 
     Right : Bool → Bool → Bool → Type 0
-    Right w r u = ((n : Refusal) → (said (w && (r && u)) ≡ Answer.Refused n) ↔ First (clauses w u) n) × ((is_refused (said (w && (r && u))) ≡ false) ↔ NoneApplies (clauses w u))
+    Right w r u = ((n : Refusal) → (said (w && (r && u)) ≡ Err n) ↔ First (clauses w u) n) × ((is_refused (said (w && (r && u))) ≡ false) ↔ NoneApplies (clauses w u))
 
-    two : {n : Refusal} → Answer.Refused Refusal.Memory ≡ Answer.Refused n → Refusal.Memory ≡ n
+    two : {n : Refusal} → ◌≡◌ {A = Answer} (Err Refusal.Memory) (Err n) → Refusal.Memory ≡ n
     two e = cc
 
     go : (w r u : Bool) → T (not r) ↔ short → (u ≡ true → Meets (tests_in S v ps c) (stated S v ps c)) → Right w r u
@@ -364,8 +366,8 @@ refuses m ps c = go (works_on c (stored_form (words m))) (room_for (form_use c) 
           ),
           (λ q. (true≢false, (true≢false, (long, (meets_none e).0 (is_accept _ _ q)))), λ q. rw ((meets_none e).1 q.1.1.1) (unfold answer_if in (not_refused S v ps c))),
         )
-    go true true false s f = (λ n. (λ q. inl (refl, two q), ⊎_elim (λ q. ap Answer.Refused q.1) (λ q. absurd (q.0 refl))), (λ q. absurd (true≢false q), λ q. absurd (q.0 refl)))
-    go true false u s f = (λ n. (λ q. short_first u n (two q), λ q. ap Answer.Refused (short_only u n q)), (λ q. absurd (true≢false q), λ q. absurd (q.1.1.0 (s.0 tt))))
+    go true true false s f = (λ n. (λ q. inl (refl, two q), ⊎_elim (λ q. ap Err q.1) (λ q. absurd (q.0 refl))), (λ q. absurd (true≢false q), λ q. absurd (q.0 refl)))
+    go true false u s f = (λ n. (λ q. short_first u n (two q), λ q. ap Err (short_only u n q)), (λ q. absurd (true≢false q), λ q. absurd (q.1.1.0 (s.0 tt))))
       where
         short_first : (u : Bool) (n : Refusal) → Refusal.Memory ≡ n → First (clauses true u) n
         short_first true n e = inr (true≢false, inr (true≢false, inl (s.0 tt, e)))
@@ -373,7 +375,7 @@ refuses m ps c = go (works_on c (stored_form (words m))) (room_for (form_use c) 
 
         short_only : (u : Bool) (n : Refusal) → First (clauses true u) n → Refusal.Memory ≡ n
         short_only u n = ⊎_elim (λ q. q.1) (λ q. ⊎_elim (λ z. z.1) (λ z. ⊎_elim (λ y. y.1) (λ y. absurd (y.0 (s.0 tt))) z.1) q.1)
-    go false r u s f = (λ n. (λ q. other_first u n (two q), λ q. ap Answer.Refused (other_only u n q)), (λ q. absurd (true≢false q), λ q. absurd (q.1.0 refl)))
+    go false r u s f = (λ n. (λ q. other_first u n (two q), λ q. ap Err (other_only u n q)), (λ q. absurd (true≢false q), λ q. absurd (q.1.0 refl)))
       where
         other_first : (u : Bool) (n : Refusal) → Refusal.Memory ≡ n → First (clauses false u) n
         other_first true n e = inr (true≢false, inl (refl, e))

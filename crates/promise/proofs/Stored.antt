@@ -10,7 +10,8 @@ use native.Mathlib.Decide.{dec_lt}
 use lib.Dec.{T, eqb, lt→ltb}
 use lib.ListN.{length, get_or, get_or-eq_default}
 use Rattle.layout.specs.Codes.{as_waiting}
-use Rattle.terms.specs.Measures.{Shape, range_rows, within_limits}
+use Rattle.terms.specs.Measures.{range_rows, within_limits}
+use Rattle.terms.specs.declared.Shape.{Shape}
 use Rattle.terms.specs.declared.Form.{Form}
 use Rattle.terms.specs.declared.ScanEntry.{ScanEntry}
 use Rattle.layout.specs.declared.Region.TheVariants.{Opens, TailRow, Used}

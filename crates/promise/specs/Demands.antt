@@ -4,8 +4,11 @@
 -- `make` cites. The plain history is History; what is committed is said in the history's Latest, and what a page holds in the model's Claims.
 -- A memory is any list of numbers here, so that every list of bytes is one.
 use Rattle.std.specs.Prelude.{◌≡◌, ◌↔◌, false, not, List, ◌∷◌, ℕ, suc, ◌≤◌, ◌<◌, T, length, get_or, take, drop}
-use Rattle.terms.specs.Measures.{Shape, within_limits, most_scans}
-use Rattle.terms.specs.declared.Answer.{Answer}
+use Rattle.terms.specs.Measures.{within_limits, most_scans}
+use Rattle.terms.specs.declared.Shape.{Shape}
+use Rattle.std.specs.Prelude.{Ok, Err}
+use Rattle.terms.specs.Answers.{Answer}
+use Rattle.terms.specs.declared.Fields.{Fields}
 use Rattle.terms.specs.declared.ScanEntry.{ScanEntry}
 use Rattle.terms.specs.declared.Refusal.{Refusal}
 use Rattle.words.specs.Words.{words, Bytes}
@@ -26,7 +29,7 @@ use Rattle.promise.specs.Stated.{First, NoneApplies, conditions}
 
 -- ---- 11.1: a run begins with an accepted making, in either form: F is the form, m and ps are what memory and list held before it
 abbrev pub Accepted : Form → Shape → List ℕ → List ScanEntry → Type 0
-Accepted F S m ps = (made F S (length ps) m).0 ≡ Answer.Done
+Accepted F S m ps = (made F S (length ps) m).0 ≡ Ok Fields.Done
 
 abbrev pub memory_made : Form → Shape → List ℕ → List ScanEntry → List ℕ
 memory_made F S m ps = (made F S (length ps) m).1
@@ -58,13 +61,13 @@ store_left F S m ps cs = left (lend (memory_made F S m ps) (made_list ps)) cs
 unfoldable pub Refuses : Type 0
 Refuses =
     (m : List ℕ) (ps : List ScanEntry) (c : Call)
-    → ((n : Refusal) → (answer_of (lend m ps) c ≡ Answer.Refused n) ↔ First (conditions m ps c) n)
+    → ((n : Refusal) → (answer_of (lend m ps) c ≡ Err n) ↔ First (conditions m ps c) n)
     × ((is_refused (answer_of (lend m ps) c) ≡ false) ↔ NoneApplies (conditions m ps c))
 
 -- 11.9: a refused call changes nothing: no byte, no entry, no place of its slice, no byte of a second memory
 unfoldable pub RefusedKeeps : Type 0
 RefusedKeeps =
-    (m : List ℕ) (ps : List ScanEntry) (c : Call) (n : Refusal) → Bytes m → answer_of (lend m ps) c ≡ Answer.Refused n
+    (m : List ℕ) (ps : List ScanEntry) (c : Call) (n : Refusal) → Bytes m → answer_of (lend m ps) c ≡ Err n
     → (memory_after (lend m ps) c ≡ m) × (list_after (lend m ps) c ≡ ps) × (stamps_left (lend m ps) c ≡ lent_to (slice_of c)) × (second_after (lend m ps) c ≡ second_of c)
 
 -- ---- demand 2
@@ -105,7 +108,7 @@ StrikingStore = Every (λ F S m ps cs. plain_outcomes cs (store_outcomes F S m p
 
 -- 11.7: stability, of calls in the list that are not refused
 unfoldable pub store_outcome_at : Form → Shape → List ℕ → List ScanEntry → List Call → ℕ → Outcome Answer
-store_outcome_at F S m ps cs i = get_or (store_outcomes F S m ps cs) i (alone Answer.Done)
+store_outcome_at F S m ps cs i = get_or (store_outcomes F S m ps cs) i (alone (Ok Fields.Done))
 
 -- call i is x, and is not refused
 pub record AcceptsIn (F : Form) (S : Shape) (m : List ℕ) (ps : List ScanEntry) (cs : List Call) (i : ℕ) (x : Call) : Type 0 where
@@ -131,12 +134,12 @@ ScansStableStore =
 -- ---- 11.15: there and back, with no call between, of any memory of the first form that a move accepts: the bytes needed are the first ones, and bytes past the need, of either second memory, are as they were
 unfoldable pub ThereAndBack : Type 0
 ThereAndBack =
-    (m second third : List ℕ) (ps : List ScanEntry) → Bytes m → answer_of (lend m ps) (move Form.Newest second) ≡ Answer.Done
+    (m second third : List ℕ) (ps : List ScanEntry) → Bytes m → answer_of (lend m ps) (move Form.Newest second) ≡ Ok Fields.Done
     → let S = stored_shape (words m) in
     let there = second_after (lend m ps) (move Form.Newest second) in
     let back = second_after (lend there ps) (move Form.First third) in
     (drop (bytes_needed Form.Newest S) there ≡ drop (bytes_needed Form.Newest S) second)
     × (bytes_needed Form.First S ≤ length third
-    → (answer_of (lend there ps) (move Form.First third) ≡ Answer.Done)
+    → (answer_of (lend there ps) (move Form.First third) ≡ Ok Fields.Done)
     × (take (bytes_needed Form.First S) back ≡ take (bytes_needed Form.First S) m)
     × (drop (bytes_needed Form.First S) back ≡ drop (bytes_needed Form.First S) third))

@@ -1,7 +1,7 @@
 -- Which bytes of the lent memory, and which entries of the lent list, a call may change: 11.13 and 11.14 of docs/SPECIFICATION.md, the latter Item 5 of document 02 in its words. Of every memory and list, whoever wrote them.
 -- proofs/Footprint.antt proves it. The model's Footprint has the parts, by the words of the memory; `ByteOf` (the layout's Parts) says which bytes those are.
 use Rattle.std.specs.Prelude.{◌≡◌, ◌⊎◌, List, ℕ, ◌≤◌, length, get_or}
-use Rattle.terms.specs.Measures.{Shape}
+use Rattle.terms.specs.declared.Shape.{Shape}
 use Rattle.terms.specs.declared.Form.{Form}
 use Rattle.terms.specs.declared.ScanEntry.{ScanEntry}
 use Rattle.words.specs.Words.{words, Bytes}

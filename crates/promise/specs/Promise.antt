@@ -2,11 +2,12 @@
 -- demand 3 is stated over. A memory that is not usable, or in a form that the call does not work on, is answered 2 and left as it is, and so is a move into a second memory that is too short; any
 -- other call is answered by the model's definitions over the view of the memory, and what they leave is laid over the bytes that the shape needs: of the memory lent, or of the second one by a move.
 use Rattle.std.specs.Prelude.{Bool, true, cond, ◌&&◌, List, [], ◌∷◌, ◌≡◌, ℕ, leb, length}
-use Rattle.terms.specs.Measures.{Shape}
+use Rattle.terms.specs.declared.Shape.{Shape}
 use Rattle.terms.specs.Refusals.{is_accepted}
 use Rattle.terms.specs.declared.ScanEntry.{ScanEntry}
 use Rattle.terms.specs.declared.Refusal.{Refusal}
-use Rattle.terms.specs.declared.Answer.{Answer}
+use Rattle.std.specs.Prelude.{Err}
+use Rattle.terms.specs.Answers.{Answer}
 use Rattle.words.specs.Words.{words}
 use Rattle.terms.specs.declared.Form.{Form}
 use Rattle.layout.specs.Sizes.{sizes_of, bytes_needed}
@@ -74,7 +75,7 @@ unfoldable pub answer_of : Lent → Call → Answer
 answer_of x c =
     let m = x.memory in
     let ps = x.list in
-    cond (admits x c) (say (stored_shape (words m)) (store_view m) ps c) (Answer.Refused Refusal.Memory)
+    cond (admits x c) (say (stored_shape (words m)) (store_view m) ps c) (Err Refusal.Memory)
 
 unfoldable pub memory_after : Lent → Call → List ℕ
 memory_after x c =

@@ -1,6 +1,7 @@
 -- The one relation between lent bytes and the plain history. Nobody must believe it: the proof of demand 3 goes by it (proofs/Represents.antt).
 use Rattle.std.specs.Prelude.{◌≡◌, true, List, ℕ, ◌≤◌, length}
-use Rattle.terms.specs.Measures.{Shape, within_limits}
+use Rattle.terms.specs.Measures.{within_limits}
+use Rattle.terms.specs.declared.Shape.{Shape}
 use Rattle.terms.specs.declared.Form.{Form}
 use Rattle.terms.specs.declared.ScanEntry.{ScanEntry}
 use Rattle.layout.specs.Sizes.{sizes_of, bytes_needed}

@@ -3,7 +3,8 @@
 -- `Refuses` (Demands) says that a call answers by these conditions; which stamps are crossings is the model's to say (Versions). Two words are settled here. Open is what stands in the list of open numbers, and nothing
 -- else: state words do not make a number open. What is not open is committed where its state word says so, and aborted otherwise.
 use Rattle.std.specs.Prelude.{◌≡◌, ◌≢◌, ◌⊎◌, false, not, List, [], ◌∷◌, ℕ, ◌+◌, ◌*◌, ◌%◌, ◌≤◌, ◌<◌, T, eqb, length, get_or}
-use Rattle.terms.specs.Measures.{Shape, range_rows, most_transactions, most_scans, most_numbers}
+use Rattle.terms.specs.Measures.{range_rows, most_transactions, most_scans, most_numbers}
+use Rattle.terms.specs.declared.Shape.{Shape}
 use Rattle.terms.specs.Entries.{free_entry}
 use Rattle.terms.specs.declared.ScanEntry.{ScanEntry}
 use Rattle.terms.specs.declared.Refusal.{Refusal}

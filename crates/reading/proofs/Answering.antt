@@ -2,6 +2,7 @@
 use Prim.Native.Nat.{ℕ}
 use mathlib.Core.Path.{◌≡◌}
 use mathlib.Core.Bool.{Bool, true, false}
+use lib.Dec.{eqb}
 use lib.ListN.{get_or}
 use borrow.Author.Tests.{ne_eqb}
 use Rattle.layout.specs.declared.Region.TheVariants.{TailKind, TailMask}
@@ -17,7 +18,7 @@ module _ (v : View) (who : Reader) (c at mask : ℕ) (x : Bool) (e : mask ≡ ge
   answers_not h = rw (← e, ← b, h)
 
   module _ (kind : ℕ) (h : x ≡ true) (k : kind ≡ get_or (v TailKind) at 0) where
-    pub answers_original : kind ≡ 0 → true ≡ answers_for who c (record_in v at)
+    pub answers_original : kind ≡ 0 → eqb kind 0 ≡ answers_for who c (record_in v at)
     unfolding answers_for record_in
     answers_original z = rw (← e, ← b, h, ← k, z)
 
@@ -25,6 +26,6 @@ module _ (v : View) (who : Reader) (c at mask : ℕ) (x : Bool) (e : mask ≡ ge
     unfolding answers_for record_in
     answers_setting seen z q = rw (← e, ← b, h, ← k, z) q
 
-    pub answers_delete : (kind ≡ 0 → ⊥) → (kind ≡ 1 → ⊥) → false ≡ answers_for who c (record_in v at)
+    pub answers_delete : (kind ≡ 0 → ⊥) → (kind ≡ 1 → ⊥) → eqb kind 1 ≡ answers_for who c (record_in v at)
     unfolding answers_for record_in
     answers_delete z o = rw (← e, ← b, h, ← k, ne_eqb kind 0 z, ne_eqb kind 1 o)

@@ -11,7 +11,6 @@ ghost use Rattle.reading.specs.ScanPages.{old_page};
 
 use layout::codes::PAGE_WAITING;
 use layout::{Region, Sizes};
-use loops::Found;
 use regions::read;
 use terms::Row;
 use terms::limits::RANGE_ROWS;
@@ -43,40 +42,29 @@ pub fn current_page(mem: &[u8], s: Sizes, g: usize, c: u32) -> usize
 }
 
 // Whether page p waits, is of this chunk, and was current after the first `merges` merges.
+#[tactic(auto, using(layout::proofs::Indices::chunks_some))]
 fn was_current(mem: &[u8], s: Sizes, merges: u32, chunk: usize, p: usize) -> bool
     requires suffices { Suffices s mem.now }
     requires proper { Proper s }
     requires p_lt_pages { p < s.pages }
     ensures { result ≡ was_current (shape_in s) (view_of s mem.now) merges chunk p }
 {
-    if read(mem, s, Region::PageState, p) < PAGE_WAITING {
+    if read(mem, s, Region::PageState, p) < PAGE_WAITING
+        || read(mem, s, Region::PageChunk, p) as usize % s.chunks != chunk
+    {
         return false;
     }
-    if read(mem, s, Region::PageChunk, p) as usize % s.chunks != chunk {
-        return false;
-    }
-    if read(mem, s, Region::PageMade, p) > merges {
-        return false;
-    }
-    merges < read(mem, s, Region::PageReplaced, p)
+    read(mem, s, Region::PageMade, p) <= merges && merges < read(mem, s, Region::PageReplaced, p)
 }
 
 // The first waiting page of a chunk that was current after the first `merges` merges.
-fn old_page(mem: &[u8], s: Sizes, merges: u32, chunk: usize) -> Found
+fn old_page(mem: &[u8], s: Sizes, merges: u32, chunk: usize) -> Option<usize>
     requires suffices { Suffices s mem.now }
     requires proper { Proper s }
     ensures value { result ≡ old_page (shape_in s) (view_of s mem.now) merges chunk }
     ensures inside { Inside result s.pages }
 {
-    let n = s.pages;
-    let mut p = 0;
-    while p < n {
-        if was_current(mem, s, merges, chunk, p) {
-            return Found::At(p);
-        }
-        p += 1;
-    }
-    Found::Nothing
+    (0..s.pages).find(|&p| was_current(mem, s, merges, chunk, p))
 }
 
 // The page of range g and column c that was current after the first `merges` merges.
@@ -92,8 +80,5 @@ pub fn scan_page(mem: &[u8], s: Sizes, merges: u32, g: usize, c: u32) -> usize
         return current;
     }
     let chunk = g * s.columns + c as usize;
-    let Found::At(p) = old_page(mem, s, merges, chunk) else {
-        return current;
-    };
-    p
+    old_page(mem, s, merges, chunk).unwrap_or(current)
 }

@@ -4,7 +4,7 @@
 
 pub mod base_pages;
 
-ghost use Rattle.std.specs.Prelude.{◌≡◌, ◌+◌, ◌≤◌, ◌<◌, leb};
+ghost use Rattle.std.specs.Prelude.{◌≡◌, ◌+◌, ◌≤◌, ◌<◌, leb, Ok};
 ghost use Rattle.layout.specs.Regions.{first_slot};
 ghost use Rattle.layout.specs.View.{rows_given, used_in, view_of, Suffices};
 ghost use Rattle.model.specs.Stored.{record_in, page_in, value_in};
@@ -17,11 +17,10 @@ ghost use Rattle.reading.specs.Setters.{RecordInside};
 use base_pages::{cell, current_page};
 use layout::codes::{COMMITTED, KEEPER_LIMIT, ORIGINAL, SETTING};
 use layout::{Region, Sizes};
-use loops::Found;
 use model::{Reader, Setter, Version};
 use regions::{read, read_later};
 use rows::{has_bit, range_of, sees_record, slot_of, visible};
-use terms::{Answer, Row, ScanEntry, Stamp, Tail, Transaction};
+use terms::{Fields, Row, ScanEntry, Stamp, Tail, Transaction};
 use words::of_word;
 
 // The number below the first record of a range.
@@ -54,20 +53,23 @@ pub fn answers_for(mem: &[u8], s: Sizes, who: Reader, at: usize, c: u32) -> bool
     requires at_lt_slots { (at < s.slots) × (c < 32) }
     ensures { result ≡ answers_for who c (record_in (view_of s mem.now) at) }
 {
-    if has_bit(read(mem, s, Region::TailMask, at), c) {
-        let kind = read(mem, s, Region::TailKind, at);
-        if kind == ORIGINAL {
-            return true;
-        }
-        if kind == SETTING {
-            return sees_record(mem, s, who, at);
-        }
+    if !has_bit(read(mem, s, Region::TailMask, at), c) {
+        return false;
     }
-    false
+    let kind = read(mem, s, Region::TailKind, at);
+    kind == ORIGINAL || (kind == SETTING && sees_record(mem, s, who, at))
 }
 
 // From record `from` of range g back along the links, while the record's number is above `low`, to the first that answers for column c.
-pub fn walk(mem: &[u8], s: Sizes, who: Reader, g: usize, c: u32, low: Tail, from: Tail) -> Found
+pub fn walk(
+    mem: &[u8],
+    s: Sizes,
+    who: Reader,
+    g: usize,
+    c: u32,
+    low: Tail,
+    from: Tail,
+) -> Option<usize>
     requires suffices { Suffices s mem.now }
     requires proper { Proper s }
     requires linked { Linked s (view_of s mem.now) }
@@ -75,16 +77,15 @@ pub fn walk(mem: &[u8], s: Sizes, who: Reader, g: usize, c: u32, low: Tail, from
     ensures value { result ≡ walk (shape_in s) (view_of s mem.now) who g c low.0 from.0 from.0 }
     ensures inside { Inside result s.slots }
 {
-    let last = low.0;
     let mut k = from.0;
-    while k > last {
+    while k > low.0 {
         let at = slot_of(s, g, Tail(k));
         if answers_for(mem, s, who, at, c) {
-            return Found::At(at);
+            return Some(at);
         }
         k = read(mem, s, Region::TailLink, at);
     }
-    Found::Nothing
+    None
 }
 
 // The record number down to which the reader looks: the page's lineage, or 0 where the page holds a setting later than the reader's stamp.
@@ -94,9 +95,10 @@ fn down_to(mem: &[u8], s: Sizes, who: Reader, page: usize) -> Tail
     ensures { result.0 ≡ down_to who (page_in (view_of s mem.now) page) }
 {
     if read(mem, s, Region::PageNewest, page) <= who.stamp.0 {
-        return Tail(read(mem, s, Region::PageLineage, page));
+        Tail(read(mem, s, Region::PageLineage, page))
+    } else {
+        Tail(FLOOR)
     }
-    Tail(FLOOR)
 }
 
 // The word of a row and column on a page, for a sum. A column that no update has set is in the page alone.
@@ -109,18 +111,19 @@ pub fn word_of(mem: &[u8], s: Sizes, who: Reader, page: usize, row: Row, c: u32)
 {
     let held = cell(mem, s, page, row);
     let i = row.0 as usize;
-    if has_bit(read(mem, s, Region::RowMask, i), c) {
-        let low = down_to(mem, s, who, page);
-        let link = Tail(read(mem, s, Region::RowLink, i));
-        if let Found::At(at) = walk(mem, s, who, range_of(row), c, low, link) {
-            return value(mem, s, at, c);
-        }
+    if !has_bit(read(mem, s, Region::RowMask, i), c) {
+        return held;
     }
-    held
+    let low = down_to(mem, s, who, page);
+    let link = Tail(read(mem, s, Region::RowLink, i));
+    let Some(at) = walk(mem, s, who, range_of(row), c, low, link) else {
+        return held;
+    };
+    value(mem, s, at, c)
 }
 
 // The tail record that answers for a row and column, of all that the row has. `word_of` has such a walk of its own, for speed (docs/DECISIONS.md, section 8).
-fn find(mem: &[u8], s: Sizes, who: Reader, row: Row, c: u32) -> Found
+fn find(mem: &[u8], s: Sizes, who: Reader, row: Row, c: u32) -> Option<usize>
     requires suffices { Suffices s mem.now }
     requires proper { Proper s }
     requires linked { Linked s (view_of s mem.now) }
@@ -129,11 +132,11 @@ fn find(mem: &[u8], s: Sizes, who: Reader, row: Row, c: u32) -> Found
     ensures inside { Inside result s.slots }
 {
     let i = row.0 as usize;
-    if has_bit(read(mem, s, Region::RowMask, i), c) {
-        let link = Tail(read(mem, s, Region::RowLink, i));
-        return walk(mem, s, who, range_of(row), c, Tail(FLOOR), link);
+    if !has_bit(read(mem, s, Region::RowMask, i), c) {
+        return None;
     }
-    Found::Nothing
+    let link = Tail(read(mem, s, Region::RowLink, i));
+    walk(mem, s, who, range_of(row), c, Tail(FLOOR), link)
 }
 
 // Who set what the tail record at a slot answers with: an original holds what was inserted.
@@ -144,9 +147,10 @@ pub fn setter_at(mem: &[u8], s: Sizes, at: usize) -> Setter
     ensures record_inside { RecordInside result s.slots }
 {
     if read(mem, s, Region::TailKind, at) == ORIGINAL {
-        return Setter::Insert;
+        Setter::Insert
+    } else {
+        Setter::Update(at)
     }
-    Setter::Update(at)
 }
 
 // The stamp of a setter's commit; 0 while it has none.
@@ -173,10 +177,7 @@ pub fn setter_stamp(mem: &[u8], s: Sizes, row: Row, setter: Setter) -> u32
 fn commit_stamp(state: u32, stamp: u32) -> u32
     ensures { result ≡ commit_stamp state stamp }
 {
-    if state == COMMITTED {
-        return stamp;
-    }
-    0
+    if state == COMMITTED { stamp } else { 0 }
 }
 
 // Whether the tail record at a slot of range g has a number above `low`.
@@ -200,47 +201,44 @@ fn lookup(mem: &[u8], s: Sizes, who: Reader, page: usize, row: Row, c: u32) -> V
 {
     let held = cell(mem, s, page, row);
     let low = down_to(mem, s, who, page);
-    let Found::At(at) = find(mem, s, who, row, c) else {
+    let Some(at) = find(mem, s, who, row, c) else {
         return Version {
             word: held,
             setter: Setter::Insert,
         };
     };
     let setter = setter_at(mem, s, at);
-    if is_above(s, range_of(row), at, low) {
-        return Version {
-            word: value(mem, s, at, c),
-            setter: setter,
-        };
-    }
-    Version {
-        word: held,
-        setter: setter,
-    }
+    let word = if is_above(s, range_of(row), at, low) {
+        value(mem, s, at, c)
+    } else {
+        held
+    };
+    Version { word, setter }
 }
 
 // What a read shows of a version.
-fn shown(mem: &[u8], s: Sizes, row: Row, version: Version) -> Answer
+fn shown(mem: &[u8], s: Sizes, row: Row, version: Version) -> Fields
     requires suffices { Suffices s mem.now }
     requires row_lt_rows { (row.0 < s.rows) × RecordInside version.setter s.slots }
-    ensures { result ≡ shown_in (view_of s mem.now) row.0 version }
+    ensures { Ok result ≡ shown_in (view_of s mem.now) row.0 version }
 {
     let setter = version.setter;
-    Answer::Version(of_word(version.word), setter_stamp(mem, s, row, setter))
+    Fields::Version(of_word(version.word), setter_stamp(mem, s, row, setter))
 }
 
 // What the reader reads of a row and column on a page.
-pub fn read_cell(mem: &[u8], s: Sizes, who: Reader, page: usize, row: Row, c: u32) -> Answer
+pub fn read_cell(mem: &[u8], s: Sizes, who: Reader, page: usize, row: Row, c: u32) -> Fields
     requires suffices { Suffices s mem.now }
     requires proper { Proper s }
     requires linked { Linked s (view_of s mem.now) }
     requires page_lt_pages { (page < s.pages) × (c < s.columns) × (row.0 < rows_given (view_of s mem.now)) }
-    ensures { result ≡ read_in (shape_in s) (view_of s mem.now) who page row.0 c }
+    ensures { Ok result ≡ read_in (shape_in s) (view_of s mem.now) who page row.0 c }
 {
     if visible(mem, s, who, row) {
-        return shown(mem, s, row, lookup(mem, s, who, page, row, c));
+        shown(mem, s, row, lookup(mem, s, who, page, row, c))
+    } else {
+        Fields::None
     }
-    Answer::None
 }
 
 // The keeper that the tail record bears that answers for a row and column, the row's where none does.
@@ -251,33 +249,34 @@ fn keeper_word(mem: &[u8], s: Sizes, who: Reader, row: Row, c: u32) -> u32
     requires c_lt_columns { (c < s.columns) × (row.0 < rows_given (view_of s mem.now)) }
     ensures { result ≡ keeper_word (shape_in s) (view_of s mem.now) who row.0 c }
 {
-    let Found::At(at) = find(mem, s, who, row, c) else {
+    let Some(at) = find(mem, s, who, row, c) else {
         return read_later(mem, s, Region::RowKeeper, s.later.rows, row.0 as usize);
     };
     read_later(mem, s, Region::TailKeeper, s.later.slots, at)
 }
 
 // The keeper of what the reader reads of a row and column.
-pub fn read_keeper(mem: &[u8], s: Sizes, who: Reader, row: Row, c: u32) -> Answer
+pub fn read_keeper(mem: &[u8], s: Sizes, who: Reader, row: Row, c: u32) -> Fields
     requires suffices { Suffices s mem.now }
     requires proper { Proper s }
     requires linked { Linked s (view_of s mem.now) }
     requires c_lt_columns { (c < s.columns) × (row.0 < rows_given (view_of s mem.now)) }
-    ensures { result ≡ keeper_in (shape_in s) (view_of s mem.now) who row.0 c }
+    ensures { Ok result ≡ keeper_in (shape_in s) (view_of s mem.now) who row.0 c }
 {
     if visible(mem, s, who, row) {
-        return Answer::Number(keeper_word(mem, s, who, row, c) % KEEPER_LIMIT);
+        Fields::Number(keeper_word(mem, s, who, row, c) % KEEPER_LIMIT)
+    } else {
+        Fields::None
     }
-    Answer::None
 }
 
 // What the reader reads of a row and column on the current page.
-pub fn read_current(mem: &[u8], s: Sizes, who: Reader, row: Row, c: u32) -> Answer
+pub fn read_current(mem: &[u8], s: Sizes, who: Reader, row: Row, c: u32) -> Fields
     requires suffices { Suffices s mem.now }
     requires proper { Proper s }
     requires linked { Linked s (view_of s mem.now) × Pooled s (view_of s mem.now) }
     requires c_lt_columns { (c < s.columns) × (row.0 < rows_given (view_of s mem.now)) }
-    ensures { result ≡ read_current (shape_in s) (view_of s mem.now) who row.0 c }
+    ensures { Ok result ≡ read_current (shape_in s) (view_of s mem.now) who row.0 c }
 {
     let page = current_page(mem, s, range_of(row), c);
     read_cell(mem, s, who, page, row, c)

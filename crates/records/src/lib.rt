@@ -1,6 +1,6 @@
 // The test of the stored facts of the given rows and the used tail records: what a record names, the numbers, the stamps, the links. It carries its
 // flags to the end, so that the loops over words vectorise.
-#![tactic(auto)]
+#![tactic(auto, unfolding(facts::specs::Facts::rows_between, facts::specs::Facts::range_between, facts::specs::Facts::link_holds, facts::specs::Facts::row_linked, facts::specs::Facts::record_linked, facts::specs::Facts::range_linked, facts::specs::Tests::range_holds, facts::specs::Tests::rows_hold))]
 
 ghost use Rattle.std.specs.Prelude.{◌≡◌, ◌+◌, ◌≤◌, ◌<◌, min};
 ghost use Rattle.terms.specs.Measures.{most_rows, range_rows};
@@ -10,6 +10,7 @@ ghost use Rattle.layout.specs.View.{rows_given, used_in, view_of};
 ghost use Rattle.facts.specs.Facts.{each, rows_between, range_between, range_names_rows, link_holds, row_linked, record_linked, range_linked};
 ghost use Rattle.facts.specs.Tests.{Ready, range_holds, rows_hold};
 
+use facts::flags::each;
 use layout::{HEADER_ROWS, HEADER_STAMP, HEADER_TRANSACTIONS, Region, Sizes};
 use loops::both;
 use regions::{between_in, read};
@@ -41,8 +42,7 @@ fn last_row(first: u32, given: u32) -> u32
     requires { (first < given) × (first < most_rows) }
     ensures { result + 1 ≡ min given (first + range_rows) }
 {
-    let end = first + RANGE_ROWS as u32;
-    if given < end { given - 1 } else { end - 1 }
+    given.min(first + RANGE_ROWS as u32) - 1
 }
 
 // Whether each used record of range g names a given row of the range: these rows are neighbours, so two bounds tell it.
@@ -54,9 +54,10 @@ fn records_named(mem: &[u8], s: Sizes, g: usize) -> bool
     let given = read(mem, s, Region::Header, HEADER_ROWS);
     let first = (g * RANGE_ROWS) as u32;
     if given <= first {
-        return read(mem, s, Region::Used, g) == 0;
+        read(mem, s, Region::Used, g) == 0
+    } else {
+        records_between(mem, s, Region::TailRow, first, last_row(first, given), g)
     }
-    records_between(mem, s, Region::TailRow, first, last_row(first, given), g)
 }
 
 // Whether a link of a row, in range g, is 0 or a record of that row up to number `most`. A record is looked up only where its number is not above that.
@@ -66,19 +67,9 @@ fn link_holds(mem: &[u8], s: Sizes, g: usize, most: Tail, row: Row, link: Tail) 
     ensures { result ≡ link_holds s (view_of s mem.now) g most.0 row.0 link.0 }
 {
     let number = link.0;
-    if number == 0 {
-        return true;
-    }
-    if number > most.0 {
-        return false;
-    }
-    let named = read(
-        mem,
-        s,
-        Region::TailRow,
-        first_slot(s, g) + (number as usize - 1),
-    );
-    named == row.0
+    let first = first_slot(s, g);
+    number == 0
+        || number <= most.0 && read(mem, s, Region::TailRow, first + (number as usize - 1)) == row.0
 }
 
 fn record_linked(mem: &[u8], s: Sizes, g: usize, i: usize) -> bool
@@ -92,20 +83,14 @@ fn record_linked(mem: &[u8], s: Sizes, g: usize, i: usize) -> bool
     link_holds(mem, s, g, Tail(i as u32), row, link)
 }
 
-// Whether the link of each used record of range g holds. In this loop and the others here one flag is carried to the end.
+// Whether the link of each used record of range g holds.
 fn records_linked(mem: &[u8], s: Sizes, g: usize) -> bool
     requires ready { Ready s mem.now }
     requires g_lt_ranges { g < s.ranges }
     ensures { result ≡ range_linked s (view_of s mem.now) g }
 {
     let n = read(mem, s, Region::Used, g) as usize;
-    let mut ok = true;
-    let mut i = 0;
-    while i < n {
-        ok = both(ok, record_linked(mem, s, g, i));
-        i += 1;
-    }
-    ok
+    each(n, |i| record_linked(mem, s, g, i))
 }
 
 // The facts of the used records of range g.
@@ -128,14 +113,7 @@ pub fn ranges_hold(mem: &[u8], s: Sizes) -> bool
     requires { Ready s mem.now }
     ensures { result ≡ each s.ranges (range_holds s (view_of s mem.now)) }
 {
-    let n = s.ranges;
-    let mut ok = true;
-    let mut g = 0;
-    while g < n {
-        ok = both(ok, range_holds(mem, s, g));
-        g += 1;
-    }
-    ok
+    each(s.ranges, |g| range_holds(mem, s, g))
 }
 
 // ---- the rows
@@ -167,13 +145,7 @@ fn rows_linked(mem: &[u8], s: Sizes) -> bool
     ensures { result ≡ each (rows_given (view_of s mem.now)) (row_linked s (view_of s mem.now)) }
 {
     let n = read(mem, s, Region::Header, HEADER_ROWS) as usize;
-    let mut ok = true;
-    let mut r = 0;
-    while r < n {
-        ok = both(ok, row_linked(mem, s, r));
-        r += 1;
-    }
-    ok
+    each(n, |r| row_linked(mem, s, r))
 }
 
 // The facts of the given rows.

@@ -1,6 +1,6 @@
 // Access to the memory by region: a word, or a stretch, n words from an index on. Each function is proved once, for every region.
 // A stretch and not the whole region, since the rows given and the records used bound what a call has to look at.
-#![tactic(auto)]
+#![tactic(auto, using(layout::proofs::View::base_in, layout::proofs::View::view_at, layout::proofs::View::view_region, layout::proofs::View::view_put, layout::proofs::View::view_fill, layout::proofs::View::view_number, layout::proofs::View::view_copy, layout::proofs::View::view_mark, layout::proofs::Renewed::past_zero, layout::proofs::Renewed::past_same))]
 
 ghost use Rattle.std.specs.Prelude.{◌≡◌, ◌⊎◌, ◌+◌, ◌≤◌, ◌<◌, get_or};
 ghost use Rattle.loops.specs.Search.{region, all_between, first_at};
@@ -8,7 +8,7 @@ ghost use Rattle.layout.specs.Regions.{index, len};
 ghost use Rattle.layout.specs.View.{put, fill, number, copy, mark, view_of, Suffices};
 
 use layout::{Region, Sizes, base};
-use loops::{Found, all_between, copy, count_up, fill, find, mark};
+use loops::{all_between, copy, count_up, fill, find, mark};
 use words::{get, put};
 
 // Word i of region k.
@@ -59,7 +59,7 @@ pub fn between_in(mem: &[u8], s: Sizes, k: Region, at: usize, n: usize, low: u32
 }
 
 // The first index of key among n words of region k from `at` on, counted from `at`.
-pub fn find_in(mem: &[u8], s: Sizes, k: Region, at: usize, n: usize, key: u32) -> Found
+pub fn find_in(mem: &[u8], s: Sizes, k: Region, at: usize, n: usize, key: u32) -> Option<usize>
     requires suffices { Suffices s mem.now }
     requires n_bound { at + n ≤ len s k }
     ensures { result ≡ first_at key 0 (region (view_of s mem.now k) at n) }

@@ -3,8 +3,7 @@
 #![tactic(auto)]
 
 ghost use Rattle.std.specs.Prelude.{◌≡◌, ◌+◌, ◌<◌, ◌≤◌, length, take};
-ghost use Rattle.turns.specs.Gatebook.{memory_bytes, list_bytes};
-ghost use Rattle.replay.specs.Pack.{pack_bytes, head_bytes};
+ghost use Rattle.replay.specs.Pack.{head_bytes};
 
 use decimal::LINE_BYTES;
 use std::io::{Read, Write};
@@ -28,7 +27,7 @@ const COMMANDS: u8 = 2;
 // Where the 32-bit FNV-1a hash begins, and what it multiplies by.
 const HASH: u32 = 0x811c9dc5;
 
-const PRIME: u64 = 0x01000193;
+const PRIME: u32 = 0x01000193;
 
 // How far a stream is: whether it goes on, the columns of its shape, and the number and the hash of the lines that are folded.
 #[derive(Clone, Copy)]
@@ -39,6 +38,14 @@ struct Course {
     hash: u32,
 }
 
+// A stream of which no shape is answered.
+const ENDED: Course = Course {
+    on: false,
+    columns: 0,
+    lines: 0,
+    hash: HASH,
+};
+
 // Where the next command stands, and how far the stream is before it.
 #[derive(Clone, Copy)]
 struct Step {
@@ -46,103 +53,43 @@ struct Step {
     course: Course,
 }
 
-fn least(a: usize, b: usize) -> usize
-    ensures { (result ≤ a) × (result ≤ b) }
-{
-    if a < b { a } else { b }
-}
-
-// A number of bytes of a line, at most all.
-fn within(n: usize, line: &[u8]) -> usize
-    ensures { (result ≤ length line.now) × (result ≡ length (take result line.now)) }
-{
-    least(n, line.len())
-}
-
-// A byte as a number. A function of its own, since a parameter's type says that the cast fits.
-fn wide(b: u8) -> usize
-    ensures { result < 256 }
-{
-    b as usize
-}
-
 // The two-byte number at an index.
-fn two(bytes: &[u8], at: usize) -> usize
+fn two(bytes: &[u8], at: usize) -> u16
     requires { at + 2 ≤ length bytes.now }
-    ensures { result < 65536 }
 {
-    wide(bytes[at]) + wide(bytes[at + 1]) * 256
+    u16::from_le_bytes([bytes[at], bytes[at + 1]])
 }
 
 // The two-byte number at an index rises by one. An index from which no two bytes are left stands for none.
 fn raise(bytes: &mut [u8], at: usize) {
-    let n = bytes.len();
-    if at < n {
-        if n - at > 1 {
-            let next = (two(bytes, at) + 1) % 65536;
-            bytes[at] = (next % 256) as u8;
-            bytes[at + 1] = (next / 256) as u8;
-        }
+    if at < bytes.len() && bytes.len() - at > 1 {
+        let next = two(bytes, at).wrapping_add(1);
+        bytes[at..at + 2].copy_from_slice(&next.to_le_bytes());
     }
-}
-
-// The lower half of a product, which has fewer than 64 bits.
-fn multiplied(hash: u32) -> u32 {
-    (hash as u64 * PRIME % 4294967296) as u32
 }
 
 // The hash with one more byte.
 fn mix(hash: u32, byte: u8) -> u32 {
-    multiplied(hash ^ byte as u32)
+    (hash ^ u32::from(byte)).wrapping_mul(PRIME)
 }
 
-fn hashed(line: &[u8], n: usize, hash: u32) -> u32 {
-    let end = within(n, line);
-    let mut h = hash;
-    let mut i = 0;
-    while i < end {
-        h = mix(h, line[i]);
-        i += 1;
-    }
-    h
+// The hash with the bytes of a line.
+fn hashed(line: &[u8], hash: u32) -> u32 {
+    line.iter().fold(hash, |h, byte| mix(h, *byte))
 }
 
-// Whether a write fails is asked nowhere: the lines that come are compared with those that are expected.
-fn write<W: Write>(writer: &mut W, line: &[u8], n: usize) {
-    let end = within(n, line);
-    let _ = writer.write_all(&line[..end]);
-}
-
-// Callers have an array that a callee filled, and by this type need not show its length.
-fn write_line<W: Write>(writer: &mut W, line: &[u8; LINE_BYTES], n: usize) {
-    write(writer, line, n);
-}
-
-// A line is written, or folded into the number and the hash. `on` is whether the stream goes on after it.
-fn put_line<W: Write>(
-    writer: &mut W,
-    line: &[u8; LINE_BYTES],
-    n: usize,
-    on: bool,
-    folded: bool,
-    c: Course,
-) -> Course {
+// A line is written, or folded into the number and the hash. `on` is whether the stream goes on after it. Whether a write fails is asked nowhere: the lines that come are
+// compared with those that are expected.
+fn put_line<W: Write>(writer: &mut W, line: &[u8], on: bool, folded: bool, c: Course) -> Course {
     if !folded {
-        write(writer, line, n);
-        return Course {
-            on,
-            columns: c.columns,
-            lines: c.lines,
-            hash: c.hash,
-        };
+        let _ = writer.write_all(line);
+        return Course { on, ..c };
     }
-    let lines = std::num::wrapping_add_u32(c.lines, 1);
-    let hash = hashed(line, n, c.hash);
     Course {
         on,
-        columns: c.columns,
-        lines,
-        hash,
+        lines: c.lines.wrapping_add(1),
+        hash: hashed(line, c.hash),
+        ..c
     }
 }
 
@@ -158,14 +105,7 @@ fn answer<W: Write>(
 ) -> Course {
     let mut line = [0u8; LINE_BYTES];
     let t = turn(mem, scans, c.columns, byte, operands, &mut line);
-    put_line(writer, &line, t.length, t.on, folded, c)
-}
-
-// How many bytes of operands a command byte has, of those that are left.
-fn operands(byte: u8, columns: usize, left: usize) -> usize
-    ensures { result ≤ left }
-{
-    least(operand_width(byte, columns), left)
+    put_line(writer, &line[..t.length.min(LINE_BYTES)], t.on, folded, c)
 }
 
 // One command: the byte at `at`, and its operands, as many as there are.
@@ -183,7 +123,7 @@ fn run_command<W: Write>(
 {
     let byte = bytes[at];
     let from = at + 1;
-    let end = from + operands(byte, c.columns, bytes.len() - from);
+    let end = from + operand_width(byte, c.columns).min(bytes.len() - from);
     let course = answer(writer, mem, scans, byte, &bytes[from..end], folded, c);
     Step { at: end, course }
 }
@@ -212,7 +152,7 @@ fn run_once<W: Write>(
 struct Head {
     kind: u8,
     size: usize,
-    times: usize,
+    times: u16,
     first: usize,
     second: usize,
 }
@@ -222,10 +162,10 @@ fn head_at(pack: &[u8], at: usize) -> Head
 {
     Head {
         kind: pack[at],
-        size: two(pack, at + 1),
+        size: usize::from(two(pack, at + 1)),
         times: two(pack, at + 3),
-        first: two(pack, at + 5),
-        second: two(pack, at + 7),
+        first: usize::from(two(pack, at + 5)),
+        second: usize::from(two(pack, at + 7)),
     }
 }
 
@@ -256,9 +196,7 @@ fn run_times<W: Write>(
     c: Course,
 ) -> Course {
     let mut course = c;
-    let mut left = head.times;
-    while left > 0 {
-        left -= 1;
+    for _ in 0..head.times {
         course = run_and_raise(writer, mem, scans, bytes, head, folded, course);
     }
     course
@@ -268,32 +206,24 @@ fn run_times<W: Write>(
 fn put_title<W: Write>(writer: &mut W, title: &[u8]) -> Course {
     let _ = writer.write_all(title);
     let _ = writer.write_all(b"\n");
-    Course {
-        on: false,
-        columns: 0,
-        lines: 0,
-        hash: HASH,
-    }
+    ENDED
 }
 
 // The shape's line, and the store.
 fn begin<W: Write>(writer: &mut W, mem: &mut [u8], scans: &mut [u8], shape: &[u8]) -> Course {
     let mut line = [0u8; LINE_BYTES];
     let t = start(mem, scans, shape, &mut line);
-    write_line(writer, &line, t.length);
+    let _ = writer.write_all(&line[..t.length.min(LINE_BYTES)]);
     Course {
         on: t.on,
         columns: columns_of(shape),
-        lines: 0,
-        hash: HASH,
+        ..ENDED
     }
 }
 
 // The line for those that are folded.
 fn put_digest<W: Write>(writer: &mut W, c: Course) {
-    let lines = c.lines;
-    let hash = c.hash;
-    let _ = writeln!(writer, "{lines} lines {hash:08x}");
+    let _ = writeln!(writer, "{} lines {:08x}", c.lines, c.hash);
 }
 
 fn run_folded<W: Write>(
@@ -308,10 +238,9 @@ fn run_folded<W: Write>(
         return c;
     }
     let before = Course {
-        on: true,
-        columns: c.columns,
         lines: 0,
         hash: HASH,
+        ..c
     };
     let after = run_times(writer, mem, scans, bytes, head, true, before);
     put_digest(writer, after);
@@ -327,8 +256,7 @@ fn run_record<W: Write>(
     head: Head,
     c: Course,
 ) -> Course {
-    let kind = head.kind;
-    match kind {
+    match head.kind {
         TITLE => put_title(writer, bytes),
         SHAPE => begin(writer, mem, scans, bytes),
         COMMANDS => run_times(writer, mem, scans, bytes, head, false, c),
@@ -350,54 +278,19 @@ fn take_record<W: Write>(
 {
     let head = head_at(pack, at);
     let from = at + HEAD;
-    let end = from + least(head.size, pack.len() - from);
+    let end = from + head.size.min(pack.len() - from);
     let course = run_record(writer, mem, scans, &mut pack[from..end], head, c);
     Step { at: end, course }
 }
 
 // All records, as long as there is a whole head.
 fn run_all<W: Write>(writer: &mut W, mem: &mut [u8], scans: &mut [u8], pack: &mut [u8]) {
-    let mut course = Course {
-        on: false,
-        columns: 0,
-        lines: 0,
-        hash: HASH,
-    };
+    let mut course = ENDED;
     let mut at = 0;
     while pack.len() - at >= HEAD {
         let s = take_record(writer, mem, scans, pack, at, course);
         at = s.at;
         course = s.course;
-    }
-}
-
-// What is lent, of which only the length matters.
-fn lent_memory() -> [u8; MEMORY_BYTES]
-    ensures { memory_bytes ≡ length result }
-{
-    [DIRT; MEMORY_BYTES]
-}
-
-fn lent_list() -> [u8; LIST_BYTES]
-    ensures { list_bytes ≡ length result }
-{
-    [DIRT; LIST_BYTES]
-}
-
-fn pack_buffer() -> [u8; PACK]
-    ensures { pack_bytes ≡ length result }
-{
-    [0; PACK]
-}
-
-// One read behind the first `done` bytes of the buffer. It answers how many bytes came, 0 at the end of the input and where the read fails.
-fn read_behind<R: Read>(reader: &mut R, buffer: &mut [u8], done: usize) -> usize
-    requires { done ≤ length buffer.old }
-    ensures { done + result ≤ length buffer.new }
-{
-    match reader.read(&mut buffer[done..]) {
-        Ok(n) => n,
-        Err(_) => 0,
     }
 }
 
@@ -407,7 +300,7 @@ fn read_full<R: Read>(reader: &mut R, buffer: &mut [u8]) -> usize
 {
     let mut done = 0;
     while done < buffer.len() {
-        let n = read_behind(reader, buffer, done);
+        let n = reader.read(&mut buffer[done..]).unwrap_or(0);
         if n == 0 {
             break;
         }
@@ -419,9 +312,9 @@ fn read_full<R: Read>(reader: &mut R, buffer: &mut [u8]) -> usize
 fn main(rt: HostRuntime) {
     let mut reader = rt.stdin();
     let mut writer = rt.stdout();
-    let mut mem = lent_memory();
-    let mut scans = lent_list();
-    let mut pack = pack_buffer();
+    let mut mem = [DIRT; MEMORY_BYTES];
+    let mut scans = [DIRT; LIST_BYTES];
+    let mut pack = [0; PACK];
     let n = read_full(&mut reader, &mut pack);
     run_all(&mut writer, &mut mem, &mut scans, &mut pack[..n]);
 }

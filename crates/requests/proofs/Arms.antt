@@ -4,12 +4,14 @@ use mathlib.Core.Path.{◌≡◌, refl}
 use mathlib.Core.List.{List, []}
 use native.Mathlib.Omega.{arith}
 use lib.IntN.{ℤ}
-use lib.ListN.{length, set, take, replicate}
+use lib.ListN.{length, take, replicate}
 use lib.Seq.{take_all}
 use mir.Syntax.{w32}
 use mir.Val.{to_z}
 use Rattle.terms.specs.Measures.{lent_stamps}
-use Rattle.terms.specs.declared.Answer.{Answer}
+use Rattle.std.specs.Prelude.{Result}
+use Rattle.terms.specs.Answers.{Answer}
+use Rattle.terms.specs.declared.Refusal.{Refusal}
 use Rattle.terms.specs.declared.ScanEntry.{ScanEntry}
 use Rattle.scans.specs.declared.Scans.{Scans}
 use Rattle.scans.specs.Table.{table_of}
@@ -17,7 +19,7 @@ use Rattle.history.specs.History.{Call, crossings, none, slice_of, Outcome, give
 use Rattle.promise.specs.Promise.{Serves, ServesBy, Gives, GivesBy, kept}
 use Rattle.promise.proofs.Alone.{serves_gives}
 use Rattle.upkeep.specs.declared.ListChange.{ListChange}
-use Rattle.upkeep.specs.Lists.{changed_at}
+use Rattle.upkeep.specs.Lists.{answer_in, changed_at}
 use Rattle.commands.specs.declared.Kind.{Kind}
 use Rattle.commands.specs.declared.Read.{Read}
 use Rattle.commands.specs.declared.Write.{Write}
@@ -65,15 +67,12 @@ all_lent t m ns mark r stamps e l h = rw (take_all lent_stamps stamps (omega ari
 
 -- ---- the list of open scans
 -- a call that changes one entry of the list, which is written back
-pub listed : (m : List ℕ) (t : Scans) (x : Call) (r : ListChange) (m' : List ℕ) (ps ps' : List ScanEntry) → ServesBy t m x r.answer m' (changed_at r)
-    → ps' ≡ set ps r.index r.entry → t ≡ table_of ps → Serves m ps x r.answer m' ps'
+pub listed : (m : List ℕ) (t : Scans) (x : Call) (r : Result ListChange Refusal) (m' : List ℕ) (ps ps' : List ScanEntry) → ServesBy t m x (answer_in r) m' (changed_at r)
+    → ps' ≡ changed_at r ps → t ≡ table_of ps → Serves m ps x (answer_in r) m' ps'
 unfolding ServesBy
 listed m t x r m' ps ps' h e z = rw e (h ps z)
 
 -- what is due for the call that an arm makes is due for the kind of the arm
-pub read_arm : (t : Scans) (m : List ℕ) (kind k : Read) (ns : List ℕ) (r : Answer) (m' : List ℕ) → kind ≡ k → ServesBy t m (read_of k ns) r m' kept → ServesBy t m (read_of kind ns) r m' kept
-read_arm t m kind k ns r m' e h = rw e h
-
 pub write_arm : (t : Scans) (m : List ℕ) (kind k : Write) (ns : List ℕ) (vs : List ℤ) (r : Answer) (m' : List ℕ) → kind ≡ k
     → ServesBy t m (write_of k ns vs) r m' kept → ServesBy t m (write_of kind ns vs) r m' kept
 write_arm t m kind k ns vs r m' e h = rw e h

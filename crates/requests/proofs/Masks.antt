@@ -7,8 +7,9 @@ use mathlib.Core.List.{List}
 use lib.Dec.{ltb}
 use lib.IntN.{ℤ}
 use borrow.Author.Tests.{ltb-true, le-leb, ne_eqb}
-use Rattle.terms.specs.Measures.{Shape, most_columns}
-use Rattle.terms.specs.declared.Answer.{Answer}
+use Rattle.terms.specs.Measures.{most_columns}
+use Rattle.terms.specs.declared.Shape.{Shape}
+use Rattle.terms.specs.Answers.{Answer}
 use Rattle.terms.specs.declared.ScanEntry.{ScanEntry}
 use Rattle.terms.specs.declared.Refusal.{Refusal}
 use Rattle.words.specs.Words.{words}

@@ -1,7 +1,7 @@
 -- What a request asks for, what its call gives, and the masks that its operands can stand for.
 use Rattle.std.specs.Prelude.{ℕ, ◌-◌, ◌^◌, take}
 use Rattle.terms.specs.Measures.{most_columns}
-use Rattle.terms.specs.declared.Answer.{Answer}
+use Rattle.terms.specs.Answers.{Answer}
 use Rattle.history.specs.History.{Call, Outcome, given}
 use Rattle.commands.specs.declared.Request.{Request}
 use Rattle.commands.specs.Commands.{call_of}

@@ -7,7 +7,6 @@ ghost use Rattle.std.specs.Prelude.{◌≡◌, cond, [], ltb};
 ghost use Rattle.words.specs.Words.{words};
 ghost use Rattle.requests.specs.Packed.{entries_of};
 ghost use Rattle.scans.specs.Table.{table_of};
-ghost use Rattle.layout.specs.Sizes.{shape_of};
 ghost use Rattle.history.specs.History.{Call, alone as alone_of};
 ghost use Rattle.commands.specs.Commands.{read_of, write_of, call_of};
 ghost use Rattle.promise.specs.Promise.{Serves, ServesBy, Gives, GivesBy, Makes, kept};
@@ -22,24 +21,17 @@ use making::make;
 use packed::{free_all, put_entry, table};
 use scans::Scans;
 use terms::limits::{LENT_STAMPS, MOST_COLUMNS};
-use terms::{Answer, Row, Stamp, Tail, Transaction, accepted};
+use terms::{Answer, Row, Shape, Stamp, Tail, Transaction};
 use upkeep::{close_scan, merge, open_scan, release};
 use words::of_word;
 
 // A store is made, and with it every entry of the list becomes free.
-pub fn make_store(
-    mem: &mut [u8],
-    scans: &mut [u8],
-    columns: u32,
-    ranges: u32,
-    capacity: u32,
-    spares: u32,
-) -> Answer
-    ensures { Makes mem.old (entries_of (words scans.old)) (shape_of columns ranges capacity spares) result mem.new (entries_of (words scans.new)) }
+pub fn make_store(mem: &mut [u8], scans: &mut [u8], shape: Shape) -> Answer
+    ensures { Makes mem.old (entries_of (words scans.old)) shape result mem.new (entries_of (words scans.new)) }
 {
     let t = table(scans);
-    let answer = make(mem, t.length, columns, ranges, capacity, spares);
-    if accepted(answer) {
+    let answer = make(mem, t.length, shape);
+    if answer.is_ok() {
         free_all(scans);
     }
     answer
@@ -49,45 +41,32 @@ pub fn make_store(
 fn open_listed(mem: &mut [u8], scans: &mut [u8], t: Scans, a: u32) -> Answer
     ensures { t ≡ table_of (entries_of (words scans.old)) → Serves mem.old (entries_of (words scans.old)) (Call.open_scan a) result mem.new (entries_of (words scans.new)) }
 {
-    let listed = open_scan(mem, t, Stamp(a));
-    let answer = listed.answer;
-    let entry = listed.entry;
-    let index = listed.index;
-    put_entry(scans, index, entry);
-    answer
+    let listed = open_scan(mem, t, Stamp(a))?;
+    put_entry(scans, listed.index, listed.entry);
+    Ok(listed.fields)
 }
 
 fn close_listed(mem: &[u8], scans: &mut [u8], t: Scans, a: u32) -> Answer
     ensures { t ≡ table_of (entries_of (words scans.old)) → Serves mem.now (entries_of (words scans.old)) (Call.close a) result mem.now (entries_of (words scans.new)) }
 {
-    let listed = close_scan(mem, t, a);
-    let answer = listed.answer;
-    let entry = listed.entry;
-    let index = listed.index;
-    put_entry(scans, index, entry);
-    answer
+    let listed = close_scan(mem, t, a)?;
+    put_entry(scans, listed.index, listed.entry);
+    Ok(listed.fields)
 }
-
-// The mask of every column that a store can have.
-const MOST_MASK: u32 = 65535;
 
 // The mask that an operand stands for. One of more bits is refused as the mask 0 is, at the same test.
 fn mask_of(c: u32) -> u16
     ensures { result ≡ cond (ltb most_mask c) 0 c }
 {
-    if c > MOST_MASK {
-        return 0;
-    }
-    c as u16
+    u16::try_from(c).unwrap_or(0)
 }
 
 // A call that only reads.
+#[tactic(auto, unfolding(commands::specs::Commands::read_of))]
 fn look(mem: &[u8], t: Scans, kind: Read, operands: [u32; MOST_OPERANDS]) -> Answer
     ensures { ServesBy t mem.now (read_of kind operands) result mem.now kept }
 {
-    let a = operands[0];
-    let b = operands[1];
-    let c = operands[2];
+    let [a, b, c, ..] = operands;
     match kind {
         Read::Latest => latest(mem, t, Row(a), b),
         Read::ReadAt => read_at(mem, t, Stamp(a), Row(b), c),
@@ -101,6 +80,7 @@ fn look(mem: &[u8], t: Scans, kind: Read, operands: [u32; MOST_OPERANDS]) -> Ans
 }
 
 // One that changes the memory and leaves the list.
+#[tactic(auto, unfolding(commands::specs::Commands::write_of))]
 fn change(
     mem: &mut [u8],
     t: Scans,
@@ -110,9 +90,7 @@ fn change(
 ) -> Answer
     ensures { ServesBy t mem.old (write_of kind operands values) result mem.new kept }
 {
-    let a = operands[0];
-    let b = operands[1];
-    let c = operands[2];
+    let [a, b, c, ..] = operands;
     match kind {
         Write::Begin => begin(mem, t),
         Write::Insert => insert(mem, t, Transaction(a), values),
@@ -149,13 +127,19 @@ pub fn alone(answer: Answer) -> Called
 fn lent_crossings(mem: &[u8], t: Scans, operands: [u32; MOST_OPERANDS]) -> Called
     ensures { GivesBy t mem.now (call_of Kind.Crossings operands []) (given_by result) mem.now kept }
 {
-    let row = Row(operands[0]);
-    let column = operands[1];
-    let mark = of_word(operands[2]);
-    let from = Stamp(operands[3]);
-    let to = Stamp(operands[4]);
+    let [row, column, mark, from, to] = operands;
+    let mark = of_word(mark);
     let mut stamps = [0; LENT_STAMPS];
-    let answer = crossings(mem, t, &mut stamps, row, column, mark, from, to);
+    let answer = crossings(
+        mem,
+        t,
+        &mut stamps,
+        Row(row),
+        column,
+        mark,
+        Stamp(from),
+        Stamp(to),
+    );
     Called {
         answer,
         stamps,
@@ -168,12 +152,10 @@ pub fn call(mem: &mut [u8], scans: &mut [u8], request: Request) -> Called
     ensures { Gives mem.old (entries_of (words scans.old)) (requested request) (given_by result) mem.new (entries_of (words scans.new)) }
 {
     let t = table(scans);
-    let kind = request.kind;
     let operands = request.operands;
-    let values = request.values;
-    match kind {
+    match request.kind {
         Kind::Read(read) => alone(look(mem, t, read, operands)),
-        Kind::Write(write) => alone(change(mem, t, write, operands, values)),
+        Kind::Write(write) => alone(change(mem, t, write, operands, request.values)),
         Kind::OpenScan => alone(open_listed(mem, scans, t, operands[0])),
         Kind::Close => alone(close_listed(mem, scans, t, operands[0])),
         Kind::Crossings => lent_crossings(mem, t, operands),

@@ -35,13 +35,11 @@ pub fn table(list: &[u8]) -> Scans
 {
     let n = list.len() / ENTRY_BYTES;
     let mut t = blank();
-    let mut i = 0;
-    while i < n {
+    for i in 0..n {
         let p = entry_at(list, i);
         if is_open(p) {
             t = add_open(t, i, p);
         }
-        i += 1;
     }
     set_length(t, n)
 }

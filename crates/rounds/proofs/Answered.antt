@@ -1,10 +1,10 @@
 -- A turn's line behind the others.
-use Prim.Native.Nat.{ℕ, suc, ◌+◌, ◌≤◌, ◌<◌}
+use Prim.Native.Nat.{ℕ, ◌+◌, ◌≤◌}
 use mathlib.Core.Path.{◌≡◌, refl, ap, ◌∙◌}
-use mathlib.Core.List.{List, ◌++◌, append_assoc}
+use mathlib.Core.List.{List, ◌++◌}
 use native.Mathlib.Omega.{arith}
-use lib.ListN.{length, get_or, set, take, drop}
-use lib.Seq.{take-suc, take-suc-set, take-append_seam, sets, sets-eq, length-sets}
+use lib.ListN.{length, take, drop}
+use lib.Seq.{take-append_seam, sets, sets-eq}
 use Rattle.output.specs.Steps.{Step}
 use Rattle.turns.specs.declared.Outcome.{Outcome}
 use Rattle.promise.specs.Promise.{Lent}
@@ -13,14 +13,6 @@ use Rattle.rounds.specs.declared.Progress.{Progress}
 use Rattle.decimal.specs.Written.{line_bytes}
 use Rattle.rounds.specs.Due.{progress_of, Answered}
 
--- one byte more of it
-pub line_next : (old lines line : List ℕ) (at i v : ℕ) → take (at + i) lines ≡ take at old ++ take i line → v ≡ get_or line i 0 → at + i < length lines
-    → i < length line → take (at + (i + 1)) (set lines (at + i) v) ≡ take at old ++ take (i + 1) line
-line_next old lines line at i v e q h l =
-    let next : i + 1 ≡ suc i = omega arith in
-    let one : at + (i + 1) ≡ suc (at + i) = omega arith in
-    rw (one, next, take-suc-set lines (at + i) v h, take-suc line i 0 l, e, q, append_assoc)
-
 -- the line is at the front of its buffer
 front : (old line : List ℕ) → length line ≤ length old → take (length line) (sets old 0 line) ≡ line
 front old line h =
@@ -28,9 +20,6 @@ front old line h =
     rw (sets-eq line old 0 fits) (take-append_seam line (drop (0 + length line) old))
 
 module _ {s : Step Lent} {x : Lent} {buffer after : List ℕ} {t : Outcome} (d : Turned s buffer after t x) (size : length buffer ≡ line_bytes) where
-  pub long : t.length ≤ length after
-  long = rw (d.rendered.bytes, length-sets buffer 0 s.line, size) d.rendered.fits
-
   pub answered : (old new : List ℕ) (p : Progress) (columns known end : ℕ) → columns ≡ known → take (p.written + t.length) new ≡ take p.written old ++ take t.length after
       → Answered s known end x old new p (progress_of t columns end p.written)
   answered old new p columns known end e k =

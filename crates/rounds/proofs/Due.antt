@@ -8,10 +8,9 @@ use native.Mathlib.Decide.{dec_le}
 use lib.Dec.{T}
 use lib.ListN.{length, get_or, take, drop, length-append, length-drop, drop_of_length-le}
 use lib.Seq.{take_all, take-append-le, drop-append-le, drop-cons, drop-drop, drop-length}
-use Rattle.terms.specs.declared.Answer.{Answer}
+use Rattle.std.specs.Prelude.{Ok, Err}
 use Rattle.history.proofs.Lists.{by_cases, is_false}
-use Rattle.commands.specs.declared.Chosen.{Chosen}
-use Rattle.commands.specs.Commands.{commands, chosen, width, behind, shape_bytes}
+use Rattle.commands.specs.Commands.{Chosen, commands, chosen, width, behind, shape_bytes}
 use Rattle.commands.proofs.Items.{behind_shorter}
 use Rattle.commands.proofs.Table.{chosen_passes}
 use Rattle.output.specs.Output.{goes_on}
@@ -25,8 +24,8 @@ use Rattle.rounds.specs.Due.{Flow, due, Moved, end_at, step_at, CommandIn, NoCom
 
 -- ---- a byte that is no command ends the program
 abbrev ends : Chosen → Bool
-ends (Chosen.Known f) = true
-ends (Chosen.Refused r) = not (goes_on (Answer.Refused r))
+ends (Ok f) = true
+ends (Err r) = not (goes_on (Err r))
 
 chosen_ends : (byte : ℕ) → T (ends (chosen byte))
 unfolding commands goes_on
@@ -56,26 +55,26 @@ module _ {State : Type 0} (m : Machine State) (columns : ℕ) where
       → line_then x byte k (operands_of columns k (tail ++ rest)) (length (tail ++ rest)) (behind columns k (tail ++ rest))
       ≡ line_then x byte k (take (operand_width columns k) tail) (length (drop (operand_width columns k) tail ++ rest)) (drop (operand_width columns k) tail ++ rest)
   unfolding operands_of behind operand_width outcome_to
-  whole_step x byte (Chosen.Known f) tail rest e h =
+  whole_step x byte (Ok f) tail rest e h =
       let w : ℕ = width columns f in
       rw (
         take-append-le w tail rest h,
         drop-append-le w tail rest h,
-        all_steps (length (tail ++ rest)) (length (drop w tail ++ rest)) (state_after m columns x (Chosen.Known f) (take w tail)) (drop w tail ++ rest)
+        all_steps (length (tail ++ rest)) (length (drop w tail ++ rest)) (state_after m columns x (Ok f) (take w tail)) (drop w tail ++ rest)
             (omega (arith, length-append (drop w tail) rest, length-append tail rest, length-drop w tail)) (omega arith),
       )
-  whole_step x byte (Chosen.Refused r) tail rest e h = rw (is_false (goes_on (Answer.Refused r)) e)
+  whole_step x byte (Err r) tail rest e h = rw (is_false (goes_on (Err r)) e)
 
   cut_step : (x : State) (byte : ℕ) (k : Chosen) (tail : List ℕ) → length tail < operand_width columns k
       → line_then x byte k (operands_of columns k tail) (length tail) (behind columns k tail) ≡ line_then x byte k tail 0 []
   unfolding operands_of behind operand_width
-  cut_step x byte (Chosen.Known f) tail h =
+  cut_step x byte (Ok f) tail h =
       let w : ℕ = width columns f in
       let all : take w tail ≡ tail = take_all w tail (omega arith) in
       let short : length tail ≤ w = omega arith in
       let none : drop w tail ≡ [] = drop_of_length-le tail short in
-      rw (all, none, steps_none (length tail) m columns (state_after m columns x (Chosen.Known f) tail), steps_none 0 m columns (state_after m columns x (Chosen.Known f) tail))
-  cut_step x byte (Chosen.Refused r) tail h = absurd (omega arith)
+      rw (all, none, steps_none (length tail) m columns (state_after m columns x (Ok f) tail), steps_none 0 m columns (state_after m columns x (Ok f) tail))
+  cut_step x byte (Err r) tail h = absurd (omega arith)
 
 -- ---- what is due
 pub due_off : (f : Flow) (x : Lent) (bs : List ℕ) → f.on ≡ false → due f x bs ≡ []
@@ -89,9 +88,6 @@ due_commands f x bs e = rw e
 due_shape : (f : Flow) (x : Lent) (bs : List ℕ) → f.on ≡ true → f.started ≡ false → due f x bs ≡ gatebook x bs
 unfolding due
 due_shape f x bs e q = rw (e, q)
-
-pub moved_none : (last : Bool) (f : Flow) (x : Lent) (bs before : List ℕ) → Moved last f x bs before f x bs before
-moved_none last f x bs before = record { same = λ rest h. refl }
 
 pub moved_then : {last : Bool} {f g h : Flow} {x y z : Lent} {bs cs ds before between after : List ℕ} → Moved last f x bs before g y cs between
     → Moved last g y cs between h z ds after → Moved last f x bs before h z ds after
@@ -195,7 +191,7 @@ shape_moved last f g x y bs after end on started c =
 
 -- where no command is left, the program ends with the input
 pub stop_moved : (last : Bool) (f : Flow) (x : Lent) (bs before : List ℕ) (at : ℕ) → f.on ≡ true → f.started ≡ true → NoCommand last f.columns bs at
-    → Moved last f x (drop at bs) before (record { on = not last; started = true; columns = f.columns }) x (drop at bs) before
+    → Moved last f x (drop at bs) before (record f { on = not last }) x (drop at bs) before
 unfolding due
 stop_moved true f x bs before at on started c = record {
   same = λ rest h.

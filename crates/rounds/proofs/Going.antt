@@ -1,19 +1,18 @@
 -- The loop over the commands: what holds before each, and what is answered where it stops.
 use Prim.Native.Nat.{ℕ, ◌+◌, ◌*◌, ◌≤◌, ◌<◌}
-use mathlib.Core.Path.{◌≡◌, refl, ap, ◌∙◌}
+use mathlib.Core.Path.{◌≡◌, ap, ◌∙◌}
 use mathlib.Core.Bool.{Bool, true, false, not}
 use mathlib.Core.List.{List, []}
 use native.Mathlib.Omega.{arith}
 use native.Mathlib.Nat.{add-zero}
 use lib.ListN.{length, get_or, take, drop, length-drop}
 use lib.Seq.{get_or-drop}
-use Rattle.commands.specs.Commands.{shape_bytes}
 use Rattle.promise.specs.Promise.{Lent}
 use Rattle.turns.specs.Turns.{first_step, columns_from}
 use Rattle.rounds.specs.declared.Progress.{Progress}
 use Rattle.decimal.specs.Written.{line_bytes}
 use Rattle.rounds.specs.Due.{room_for, Flow, flow, Moved, wanted, step_at, NoCommand, Found, Answered, ShapeIn, Walked, Begun, Took}
-use Rattle.rounds.proofs.Due.{never, moved_none, moved_then, step_moved, shape_moved, stop_moved}
+use Rattle.rounds.proofs.Due.{never, moved_then, step_moved, shape_moved, stop_moved}
 
 -- From p to q commands are answered, and the lines have room for as many more as there are bytes.
 pub record Going (last : Bool) (p q : Progress) (x y : Lent) (bs old new : List ℕ) : Type 0 where
@@ -24,11 +23,7 @@ pub record Going (last : Bool) (p q : Progress) (x y : Lent) (bs old new : List 
 
 -- where no command is left, the program goes on only if more can come
 abbrev stopped : Bool → Progress → Progress
-stopped last q = record { on = not last; started = true; columns = q.columns; taken = q.taken; written = q.written }
-
-pub going_none : (last : Bool) (p : Progress) (x : Lent) (bs old : List ℕ)
-    → (p.started ≡ true) × (p.taken ≤ length bs) × (p.written + line_bytes * length bs ≤ length old + line_bytes * p.taken) → Going last p p x x bs old old
-going_none last p x bs old h = record { moved = moved_none last (flow p) x (drop p.taken bs) (take p.written old); started = h.0; inside = h.1; room = h.2 }
+stopped last q = record q { on = not last }
 
 module _ {last : Bool} {p q : Progress} {x y : Lent} {bs old new : List ℕ} (g : Going last p q x y bs old new) where
   pub going_next : (r : Progress) (z : Lent) (new' : List ℕ) (end : ℕ) → q.on ≡ true → Found last q.columns bs q.taken end → (end ≡ q.taken → ⊥)
@@ -46,16 +41,6 @@ module _ {last : Bool} {p q : Progress} {x y : Lent} {bs old new : List ℕ} (g 
         room = omega (arith, a.grown, a.taken, g.room);
       }
 
-  pub going_fits : (end : ℕ) → Found last q.columns bs q.taken end → (end ≡ q.taken → ⊥)
-      → (q.taken < end) × (end ≤ length bs) × (q.written + line_bytes ≤ length new)
-  going_fits end f n =
-      let less : q.taken < end = omega (arith, f.order) in
-      (less, f.inside, omega (arith, f.inside, g.room))
-
-  pub walked_off : q.on ≡ false → Walked last p q x y bs old new
-  walked_off e =
-      record { moved = g.moved; ends = λ l. e; waits = λ t. absurd (never t e); few = λ t. absurd (never t e); inside = g.inside; fits = omega (arith, g.inside, g.room) }
-
   pub walked_stop : q.on ≡ true → NoCommand last q.columns bs q.taken → Walked last p (stopped last q) x y bs old new
   unfolding wanted
   walked_stop on c =
@@ -64,24 +49,13 @@ module _ {last : Bool} {p q : Progress} {x y : Lent} {bs old new : List ℕ} (g 
       record {
         moved = moved_then g.moved (stop_moved last (flow q) y bs (take q.written new) q.taken on g.started c);
         ends = λ l. ap not l;
-        waits = λ t. rw byte (omega (arith, c.short, g.inside));
+        waits = λ t. rw (g.started, byte) (omega (arith, c.short, g.inside));
         few = λ t. omega (arith, c.few);
         inside = g.inside;
         fits = omega (arith, g.inside, g.room);
       }
 
 -- ---- the shape, and then the commands
-pub begun_same : (last : Bool) (p : Progress) (x : Lent) (bs new : List ℕ) → (p.taken ≡ 0) × (p.written ≡ 0) × (room_for (length bs) ≤ length new)
-    → (p.started ≡ false → last ≡ true → p.on ≡ false) → (p.started ≡ false → p.on ≡ true → length bs < shape_bytes) → Begun last (flow p) p x x bs new
-begun_same last p x bs new h n f =
-    record {
-      moved = rw (h.0, h.1) (moved_none last (flow p) x bs []);
-      inside = omega (arith, h.0);
-      room = omega (arith, h.0, h.1, h.2);
-      ends = n;
-      few = λ a b. rw h.0 (f a b);
-    }
-
 pub begun_shape : (last : Bool) (p q : Progress) (x y : Lent) (bs old new : List ℕ) (end : ℕ) → p.written ≡ 0 → room_for (length bs) ≤ length old
     → length new ≡ length old → p.on ≡ true → p.started ≡ false → ShapeIn last bs end
     → Answered (first_step x (take end bs)) (columns_from (take end bs)) end y old new p q → end ≤ length bs → Begun last (flow p) q x y bs new
@@ -95,12 +69,6 @@ begun_shape last p q x y bs old new end z h same on off s a l =
       few = λ e. absurd (never a.started e);
     }
 
--- without room
-pub took_nothing : (last : Bool) (f : Flow) (q : Progress) (x : Lent) (bs new : List ℕ) → length new < room_for (length bs)
-    → (flow q ≡ f) × (q.taken ≡ 0) × (q.written ≡ 0) → Took last f q x x bs new
-took_nothing last f q x bs new h e =
-    record { round = λ r. absurd (omega arith); full = λ r. (e.0, refl, e.1, e.2); inside = omega (arith, e.1); fits = omega (arith, e.2) }
-
 module _ {last : Bool} {f : Flow} {q : Progress} {x y : Lent} {bs old : List ℕ} (b : Begun last f q x y bs old) (h : room_for (length bs) ≤ length old) where
   pub took_none : q.started ≡ false → Took last f q x y bs old
   unfolding wanted
@@ -110,13 +78,4 @@ module _ {last : Bool} {f : Flow} {q : Progress} {x y : Lent} {bs old : List ℕ
         full = λ r. absurd (omega arith);
         inside = b.inside;
         fits = omega (arith, b.inside, b.room);
-      }
-
-  pub took : (r : Progress) (z : Lent) (new : List ℕ) → length new ≡ length old → Walked last q r y z bs old new → Took last f r x z bs new
-  took r z new same w =
-      record {
-        round = λ t. record { moved = moved_then b.moved w.moved; ends = w.ends; waits = w.waits; few = w.few };
-        full = λ t. absurd (omega arith);
-        inside = w.inside;
-        fits = w.fits;
       }

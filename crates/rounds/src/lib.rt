@@ -3,7 +3,6 @@
 
 ghost use Rattle.std.specs.Prelude.{◌≡◌, true, ◌++◌, ◌+◌, ◌*◌, ◌≤◌, ◌<◌, min, length, take};
 ghost use Rattle.decimal.specs.Written.{line_bytes};
-ghost use Rattle.commands.specs.Commands.{shape_bytes};
 ghost use Rattle.turns.specs.Turns.{store_in, first_step, columns_from};
 ghost use Rattle.rounds.specs.Due.{room_for, flow, step_at, progress_of, Found, Answered, Walked, Begun, Took};
 
@@ -34,18 +33,14 @@ fn append_line(
     requires { (written + line_bytes ≤ length lines.old) × (t.length ≤ line_bytes) × (t.length ≤ length line.now) }
     ensures { (take (written + t.length) lines.new ≡ take written lines.old ++ take t.length line.now) × (result ≡ progress_of t columns end written) }
 {
-    let n = t.length;
-    let mut i = 0;
-    while i < n {
-        lines[written + i] = line[i];
-        i += 1;
-    }
+    let behind = written + t.length;
+    lines[written..behind].copy_from_slice(&line[..t.length]);
     Progress {
         on: t.on,
         started: true,
         columns,
         taken: end,
-        written: written + n,
+        written: behind,
     }
 }
 
@@ -78,13 +73,10 @@ fn answer_command(
     requires { (p.taken < end) × (end ≤ length bytes.now) × (p.written + line_bytes ≤ length lines.old) }
     ensures { Answered (step_at p.columns (store_in mem.old scans.old) bytes.now p.taken end) p.columns end (store_in mem.new scans.new) lines.old lines.new p result }
 {
-    let at = p.taken;
-    let columns = p.columns;
-    let byte = bytes[at];
-    let operands = at + 1;
     let mut line = [0u8; LINE_BYTES];
-    let t = turn(mem, scans, columns, byte, &bytes[operands..end], &mut line);
-    append_line(lines, p.written, &line, t, columns, end)
+    let operands = &bytes[p.taken + 1..end];
+    let t = turn(mem, scans, p.columns, bytes[p.taken], operands, &mut line);
+    append_line(lines, p.written, &line, t, p.columns, end)
 }
 
 // The turn of the shape, in the first `end` bytes.
@@ -122,23 +114,11 @@ fn answer_commands(
         let at = p.taken;
         let end = command_end(bytes, at, p.columns, last);
         if end == at {
-            return Progress {
-                on: !last,
-                started: true,
-                columns: p.columns,
-                taken: at,
-                written: p.written,
-            };
+            return Progress { on: !last, ..p };
         }
         p = answer_command(mem, scans, bytes, end, lines, p);
     }
     p
-}
-
-fn shape_end(n: usize) -> usize
-    ensures { (result ≡ min shape_bytes n) × (result ≤ n) }
-{
-    if n < SHAPE_BYTES { n } else { SHAPE_BYTES }
 }
 
 // The shape, if it is not yet answered and its bytes are there.
@@ -153,19 +133,14 @@ fn answer_first(
     requires { (p.taken ≡ 0) × (p.written ≡ 0) × (room_for (length bytes.now) ≤ length lines.old) }
     ensures { Begun last (flow p) result (store_in mem.old scans.old) (store_in mem.new scans.new) bytes.now lines.new }
 {
-    if p.started {
+    if p.started || !p.on {
         return p;
     }
-    if !p.on {
+    if bytes.len() < SHAPE_BYTES && !last {
         return p;
     }
-    let n = bytes.len();
-    if n < SHAPE_BYTES {
-        if !last {
-            return p;
-        }
-    }
-    answer_shape(mem, scans, bytes, shape_end(n), lines, p)
+    let end = SHAPE_BYTES.min(bytes.len());
+    answer_shape(mem, scans, bytes, end, lines, p)
 }
 
 // All that `gatebook` does between a read and a write. The bytes at hand are answered as far as they go, whole commands and, if they are the last, the one that
@@ -182,11 +157,9 @@ pub fn answer(
     ensures { Took last (flow p) result (store_in mem.old scans.old) (store_in mem.new scans.new) bytes.now lines.new }
 {
     let nothing = Progress {
-        on: p.on,
-        started: p.started,
-        columns: p.columns,
         taken: 0,
         written: 0,
+        ..p
     };
     if lines.len() / LINE_BYTES <= bytes.len() {
         return nothing;

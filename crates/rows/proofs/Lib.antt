@@ -1,3 +1,4 @@
 -- Lemmas of more than one function.
 pub mod Indices
 pub mod Cases
+pub mod Finding

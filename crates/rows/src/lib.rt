@@ -14,7 +14,7 @@ ghost use Rattle.rows.specs.Finders.{head_at, Inside};
 
 use layout::codes::{COMMITTED, DELETE, OPEN};
 use layout::{Region, Sizes};
-use loops::{Found, both};
+use loops::both;
 use model::Reader;
 use regions::read;
 use terms::limits::RANGE_ROWS;
@@ -35,10 +35,7 @@ pub fn sees(who: Reader, state: u32, stamp: Stamp, ordinal: u32, transaction: Tr
     if state == COMMITTED {
         return both(stamp.0 <= who.stamp.0, ordinal <= who.commits);
     }
-    if state != OPEN {
-        return false;
-    }
-    if transaction.0 != who.me.0 {
+    if state != OPEN || transaction.0 != who.me.0 {
         return false;
     }
     // The reader's own number is the same, so this asks whether it has one. Asked before, it would be one test for all turns of a loop over records, of which
@@ -90,7 +87,7 @@ pub fn slot_of(s: Sizes, g: usize, k: Tail) -> usize
 }
 
 // Where the newest tail record of a row lies.
-pub fn head(mem: &[u8], s: Sizes, row: Row) -> Found
+pub fn head(mem: &[u8], s: Sizes, row: Row) -> Option<usize>
     requires suffices { Suffices s mem.now }
     requires proper { Proper s }
     requires linked { Linked s (view_of s mem.now) }
@@ -100,9 +97,9 @@ pub fn head(mem: &[u8], s: Sizes, row: Row) -> Found
 {
     let link = read(mem, s, Region::RowLink, row.0 as usize);
     if link == 0 {
-        return Found::Nothing;
+        return None;
     }
-    Found::At(slot_of(s, range_of(row), Tail(link)))
+    Some(slot_of(s, range_of(row), Tail(link)))
 }
 
 // Whether the row is there for the reader: its insert is seen, and no delete of it. The newest record tells of a delete, which is the last of its row.
@@ -116,11 +113,8 @@ pub fn visible(mem: &[u8], s: Sizes, who: Reader, row: Row) -> bool
     if !sees_row(mem, s, who, row) {
         return false;
     }
-    let Found::At(at) = head(mem, s, row) else {
+    let Some(at) = head(mem, s, row) else {
         return true;
     };
-    if read(mem, s, Region::TailKind, at) < DELETE {
-        return true;
-    }
-    !sees_record(mem, s, who, at)
+    read(mem, s, Region::TailKind, at) < DELETE || !sees_record(mem, s, who, at)
 }

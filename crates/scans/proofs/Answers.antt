@@ -10,8 +10,7 @@ use lib.Seq.{take-append-add, take_at}
 use borrow.Author.Tests.{ne_eqb, eqb-true, eqb-false}
 use Rattle.terms.specs.Measures.{most_scans}
 use Rattle.terms.specs.declared.ScanEntry.{ScanEntry}
-use Rattle.loops.specs.declared.Found.{Found}
-use Rattle.loops.specs.declared.Found.TheVariants.{At, Nothing}
+use Rattle.std.specs.Prelude.{Option, Some, None}
 use Rattle.loops.specs.Search.{all_between, first_at}
 use Rattle.loops.proofs.Search.{first_in, first_at_lem}
 use Rattle.terms.specs.Entries.{free_entry, is_scan, first_index}
@@ -66,41 +65,41 @@ differ_opened (p ∷ ps) =
 
 -- ---- the scan that bears a number
 
-zeros_none : (k c n : ℕ) → eqb k 0 ≡ false → first_at k c (replicate n 0) ≡ Nothing
+zeros_none : (k c n : ℕ) → eqb k 0 ≡ false → first_at k c (replicate n 0) ≡ None
 zeros_none k c zero e = refl
 zeros_none k c (suc n) e = rw (ne_eqb 0 k (λ q. eqb-false k 0 e (sym q))) (zeros_none k (c + 1) n e)
 
 -- entry j of the open scans is the first of the list that bears k
 module _ (k n : ℕ) (nonzero : eqb k 0 ≡ false) where
-  abbrev searched : ℕ → List ScanEntry → Found
+  abbrev searched : ℕ → List ScanEntry → Option ℕ
   searched c ps = first_at k c (map (λ p. p.number) (opened ps) ++ replicate n 0)
 
   -- the index of k in a list that starts at index d, and its entry j
   abbrev Entry : ℕ → List ScanEntry → ℕ → Type 0
   Entry d ps j = (first_index (is_scan k) ps + d ≡ get_or (opened_at d ps) j 0) × (get_or ps (first_index (is_scan k) ps) free_entry ≡ get_or (opened ps) j free_entry) × (j < open_count ps)
 
-  found_index : (ps : List ScanEntry) (c d j : ℕ) → searched c ps ≡ At (c + j) → Entry d ps j
+  found_index : (ps : List ScanEntry) (c d j : ℕ) → searched c ps ≡ Some (c + j) → Entry d ps j
   found_index [] c d j e = let z : ◌≡◌ {A = ℕ} 0 1 = cc (zeros_none k c n nonzero) in absurd (omega arith)
   found_index (p ∷ ps) c d j e = go (eqb p.number 0) refl (eqb p.number k) refl (found_index ps) j e
     where
-      at : (i : ℕ) → At c ≡ At i → c ≡ i
+      at : (i : ℕ) → Some c ≡ Some i → c ≡ i
       at i q = cc
 
-      go : (o : Bool) → eqb p.number 0 ≡ o → (b : Bool) → eqb p.number k ≡ b → ((c d j : ℕ) → searched c ps ≡ At (c + j) → Entry d ps j)
-          → (i : ℕ) → searched c (p ∷ ps) ≡ At (c + i) → Entry d (p ∷ ps) i
+      go : (o : Bool) → eqb p.number 0 ≡ o → (b : Bool) → eqb p.number k ≡ b → ((c d j : ℕ) → searched c ps ≡ Some (c + j) → Entry d ps j)
+          → (i : ℕ) → searched c (p ∷ ps) ≡ Some (c + i) → Entry d (p ∷ ps) i
       go true o b q later i f = rw o (let t = later c (suc d) i (rw o at f) in (omega (arith, t.0), t.1, t.2))
       go false o true q later zero f = rw (o, q) (omega arith, refl, omega arith)
       go false o true q later (suc i) f = absurd (omega (arith, at (c + suc i) (rw (o, q) at f)))
       go false o false q later zero f = absurd (omega (arith, (first_in k (c + 1) (c + 0) (map (λ p. p.number) (opened ps) ++ replicate n 0) (rw (o, q) at f)).0))
       go false o false q later (suc i) f =
-          rw (o, q) (let t = later (c + 1) (suc d) i ((rw (o, q) at f) ∙ ap At (omega arith)) in (omega (arith, t.0), t.1, omega (arith, t.2)))
+          rw (o, q) (let t = later (c + 1) (suc d) i ((rw (o, q) at f) ∙ ap Some (omega arith)) in (omega (arith, t.0), t.1, omega (arith, t.2)))
 
   -- and where none is found no entry of the list bears k
-  found_none : (ps : List ScanEntry) (c : ℕ) → searched c ps ≡ Nothing → first_index (is_scan k) ps ≡ length ps
+  found_none : (ps : List ScanEntry) (c : ℕ) → searched c ps ≡ None → first_index (is_scan k) ps ≡ length ps
   found_none [] c e = refl
   found_none (p ∷ ps) c e = go (eqb p.number 0) refl (eqb p.number k) refl (found_none ps)
     where
-      go : (o : Bool) → eqb p.number 0 ≡ o → (b : Bool) → eqb p.number k ≡ b → ((c : ℕ) → searched c ps ≡ Nothing → first_index (is_scan k) ps ≡ length ps)
+      go : (o : Bool) → eqb p.number 0 ≡ o → (b : Bool) → eqb p.number k ≡ b → ((c : ℕ) → searched c ps ≡ None → first_index (is_scan k) ps ≡ length ps)
           → first_index (is_scan k) (p ∷ ps) ≡ suc (length ps)
       go true o b q later = rw o (ap suc (later c (rw o at e)))
       go false o true q later = let f = rw (o, q) at e in let z : ◌≡◌ {A = ℕ} 0 1 = cc in absurd (omega arith)
@@ -155,13 +154,13 @@ module _ (ps : List ScanEntry) (few : open_count ps ≤ most_scans) where
   unfolding table_of
   table_before m = rw (field_taken (λ p. p.merges)) (some_opened m ps)
 
-  pub table_finds : (k j : ℕ) → find_in (table_of ps) k ≡ At j → Located ps k j
+  pub table_finds : (k j : ℕ) → find_in (table_of ps) k ≡ Some j → Located ps k j
   unfolding find_in table_of
   table_finds k j e =
-      elim (eqb k 0) as (λ b. eqb k 0 ≡ b → cond b Nothing (first_at k 0 (table_of ps).numbers) ≡ At j → Located ps k j) [
+      elim (eqb k 0) as (λ b. eqb k 0 ≡ b → cond b None (first_at k 0 (table_of ps).numbers) ≡ Some j → Located ps k j) [
         | true ↦ λ q f. let z : ◌≡◌ {A = ℕ} 0 1 = cc in absurd (omega arith)
         | false ↦ λ q f.
-            let t = found_index k (most_scans - open_count ps) q ps 0 0 j ((rw (field_column (λ p. p.number)) at f) ∙ ap At (omega arith)) in
+            let t = found_index k (most_scans - open_count ps) q ps 0 0 j ((rw (field_column (λ p. p.number)) at f) ∙ ap Some (omega arith)) in
             record {
               entry = t.2;
               number_is = ap (λ (p : ScanEntry). p.number) t.1 ∙ sym (field_at (λ p. p.number) j refl t.2) ∙ (first_at_lem k j (table_of ps).numbers f).1;
@@ -172,10 +171,10 @@ module _ (ps : List ScanEntry) (few : open_count ps ≤ most_scans) where
             }
       ] refl e
 
-  pub table_lacks : (k : ℕ) → find_in (table_of ps) k ≡ Nothing → first_index (is_scan k) ps ≡ length ps
+  pub table_lacks : (k : ℕ) → find_in (table_of ps) k ≡ None → first_index (is_scan k) ps ≡ length ps
   unfolding find_in table_of
   table_lacks k e =
-      elim (eqb k 0) as (λ b. eqb k 0 ≡ b → cond b Nothing (first_at k 0 (table_of ps).numbers) ≡ Nothing → first_index (is_scan k) ps ≡ length ps) [
+      elim (eqb k 0) as (λ b. eqb k 0 ≡ b → cond b None (first_at k 0 (table_of ps).numbers) ≡ None → first_index (is_scan k) ps ≡ length ps) [
         | true ↦ λ q f. let z : k ≡ 0 = eqb-true k 0 q in rw z (none_zero ps)
         | false ↦ λ q f. found_none k (most_scans - open_count ps) q ps 0 (rw (field_column (λ p. p.number)) at f)
       ] refl e

@@ -8,7 +8,7 @@ use native.Mathlib.Nat.{add-zero, zero-add}
 use native.Mathlib.Numerals.{add-one}
 use lib.Dec.{eqb, ltb, eqb-suc-suc}
 use lib.ListN.{length, get_or, set, take, replicate, length-append, length-map}
-use lib.Seq.{take-append-le, take-set-lt, set-append_seam, take-suc, take_all, length-take-le}
+use lib.Seq.{take-append-le, take-set-lt, set-append_seam, take-suc, length-take-le}
 use borrow.Author.Tests.{not-false, lt-ltb, le-ltb, ne_eqb, ltb-true, ltb-false, eqb-true}
 use Rattle.terms.specs.Measures.{most_scans}
 use Rattle.terms.specs.declared.ScanEntry.{ScanEntry}
@@ -147,6 +147,3 @@ free_entered l n t i p g k e f =
       whole = g.whole;
       table = table_next l (of_length i t) (of_length (i + 1) t) p i g.table e (sym (rw (not-false (eqb p.number 0) f))) (omega (arith, g.whole));
     }
-
-pub all_entered : (l : List ScanEntry) (n : ℕ) (t : Scans) (i : ℕ) → Entered l n t i → n ≤ i → of_length n t ≡ table_of l
-all_entered l n t i g k = ap (λ j. of_length j t) (omega (arith, g.within)) ∙ g.table ∙ ap table_of (take_all i l (omega (arith, g.whole)))

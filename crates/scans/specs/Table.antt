@@ -2,8 +2,7 @@
 use Rattle.std.specs.Prelude.{ℕ, ◌+◌, min, Bool, true, false, cond, ◌||◌, List, [], ◌∷◌, ◌++◌, map, eqb, ltb, length, set, take, replicate}
 use Rattle.terms.specs.Measures.{most_scans}
 use Rattle.terms.specs.declared.ScanEntry.{ScanEntry}
-use Rattle.loops.specs.declared.Found.{Found}
-use Rattle.loops.specs.declared.Found.TheVariants.{Nothing}
+use Rattle.std.specs.Prelude.{Option, None}
 use Rattle.loops.specs.Search.{first_at}
 use Rattle.scans.specs.declared.Scans.{Scans}
 use Rattle.scans.specs.Entries.{opened, opened_at, open_count, first_free}
@@ -71,8 +70,8 @@ with_entry t p =
     (cond (ltb n most_scans) (placed n i p (with_head (i + 1) (n + 1) free t.more t)) (with_head (i + 1) n free true t))
 
 -- the index of an open scan in the table. No scan has the number 0, which marks free entries of the list and unused ones of the table.
-unfoldable pub find_in : Scans → ℕ → Found
-find_in t number = cond (eqb number 0) Nothing (first_at number 0 t.numbers)
+unfoldable pub find_in : Scans → ℕ → Option ℕ
+find_in t number = cond (eqb number 0) None (first_at number 0 t.numbers)
 
 -- whether a number of the list is below m
 abbrev pub some_less : ℕ → List ℕ → Bool

@@ -1,14 +1,15 @@
 // The lent list of open scans as a table: how long it is, its open scans with their indices in it, and its first free entry. At most MOST_SCANS are open
 // in a usable store, so a table of so many holds all that a call asks of a list of any length. Definitions and laws speak of the list of entries. A table is made
-// entry by entry, by `add_open`, for a list lent as records (crates/lent) and for one in bytes (crates/requests/src/packed.rt).
+// entry by entry, by `table_from`, for a list lent as records (crates/lent) and for one in bytes (crates/requests/src/packed.rt).
 #![tactic(auto)]
 
-ghost use Rattle.std.specs.Prelude.{◌≡◌, ◌||◌, not, cond, true, [], ◌+◌, ◌<◌, ◌≤◌, eqb, length, get_or, take, drop};
+ghost use Rattle.std.specs.Prelude.{◌≡◌, ◌||◌, not, cond, true, ℕ, List, [], ◌+◌, ◌<◌, ◌≤◌, eqb, length, get_or, take, drop};
+ghost use Rattle.terms.specs.Entries.{free_entry};
+ghost use Rattle.terms.specs.declared.ScanEntry.{ScanEntry};
 ghost use Rattle.loops.specs.Search.{all_between};
 ghost use Rattle.scans.specs.Entries.{is_open, among, differ};
 ghost use Rattle.scans.specs.Table.{table_of, with_entry, of_length, find_in};
 
-use loops::{Found, and_between};
 use terms::ScanEntry;
 use terms::limits::MOST_SCANS;
 
@@ -39,6 +40,7 @@ fn free_after(free: usize, length: usize) -> usize
 }
 
 // The table of no entry.
+#[tactic(auto, unfolding(crate::specs::Table::table_of))]
 pub fn blank() -> Scans
     ensures { result ≡ table_of [] }
 {
@@ -64,21 +66,28 @@ pub fn is_open(p: ScanEntry) -> bool
 // The table of the first i entries, with entry i, an open one. What t has as its length is not looked at: free entries are passed over without it.
 // The loop looks for the one index to write, n, so that each store has an index that the compiler knows: the compiled code then jumps by n to the five stores of an open scan. A store at n
 // itself makes it copy the whole table for each.
+#[tactic(auto, unfolding(crate::specs::Table::with_entry))]
 pub fn add_open(t: Scans, i: usize, p: ScanEntry) -> Scans
     requires { (i < 4611686018427387904) × (is_open p ≡ true) }
     ensures { result ≡ with_entry (of_length i t) p }
 {
     let n = t.count;
-    let mut u = t;
-    u.length = i + 1;
-    u.free = free_after(t.free, i);
+    let free = free_after(t.free, i);
     if n >= MOST_SCANS {
-        u.more = true;
-        return u;
+        return Scans {
+            length: i + 1,
+            free,
+            more: true,
+            ..t
+        };
     }
-    u.count = n + 1;
-    let mut k = 0;
-    while k < MOST_SCANS {
+    let mut u = Scans {
+        length: i + 1,
+        count: n + 1,
+        free,
+        ..t
+    };
+    for k in 0..MOST_SCANS {
         if k == n {
             u.numbers[k] = p.number;
             u.stamps[k] = p.stamp;
@@ -86,7 +95,6 @@ pub fn add_open(t: Scans, i: usize, p: ScanEntry) -> Scans
             u.commits[k] = p.commits;
             u.indices[k] = i;
         }
-        k += 1;
     }
     u
 }
@@ -94,43 +102,55 @@ pub fn add_open(t: Scans, i: usize, p: ScanEntry) -> Scans
 pub fn set_length(t: Scans, n: usize) -> Scans
     ensures { result ≡ of_length n t }
 {
-    let mut u = t;
-    u.length = n;
-    u
+    Scans { length: n, ..t }
+}
+
+// The table of each list of n entries that answers as the closure does.
+pub fn table_from<F: Fn(usize) -> ScanEntry>(n: usize, entry_at: F) -> Scans
+    requires few { n ≤ 4611686018427387904 }
+    requires callable { (i : ℕ) → i < n → F.pre entry_at i }
+    ensures { (l : List ScanEntry) → length l ≡ n → ((i : ℕ) (p : ScanEntry) → i < n → F.post entry_at i p → p ≡ get_or l i free_entry) → result ≡ table_of l }
+{
+    let mut t = blank();
+    for i in 0..n {
+        let p = entry_at(i);
+        if is_open(p) {
+            t = add_open(t, i, p);
+        }
+    }
+    set_length(t, n)
 }
 
 // The index in the table, not in the list, of the open scan that bears a number.
-pub fn find_scan(t: Scans, number: u32) -> Found
+#[tactic(auto, using(crate::proofs::Entries::left_next), unfolding(crate::specs::Table::find_in))]
+pub fn find_scan(t: Scans, number: u32) -> Option<usize>
     ensures { result ≡ find_in t number }
 {
     if number == 0 {
-        return Found::Nothing;
+        return None;
     }
-    let numbers = t.numbers;
-    let mut i = 0;
-    while i < MOST_SCANS {
-        if numbers[i] == number {
-            return Found::At(i);
+    for i in 0..MOST_SCANS {
+        if t.numbers[i] == number {
+            return Some(i);
         }
-        i += 1;
     }
-    Found::Nothing
+    None
 }
 
 // Whether each number of a column of the table is at most a bound. Unused ones are 0, so all are looked at, and one flag is carried to the end: so no branch stands between two tests.
+#[tactic(auto, using(crate::proofs::Entries::left_next))]
 pub fn at_most(numbers: [u32; MOST_SCANS], bound: u32) -> bool
     ensures { result ≡ all_between 0 bound numbers }
 {
     let mut ok = true;
-    let mut i = 0;
-    while i < MOST_SCANS {
-        ok = and_between(ok, 0, bound, numbers[i]);
-        i += 1;
+    for n in &numbers {
+        ok &= *n <= bound;
     }
     ok
 }
 
 // Whether number i is 0 or is none of those after it among the first n.
+#[tactic(auto, using(crate::proofs::Entries::apart_not, crate::proofs::Entries::first_next))]
 fn differs(numbers: &[u32], n: usize, i: usize) -> bool
     requires { (i < n) × (n ≤ length numbers.now) }
     ensures { result ≡ (eqb (get_or (take n numbers.now) i 0) 0 || not (among (get_or (take n numbers.now) i 0) (drop (i + 1) (take n numbers.now)))) }
@@ -139,27 +159,24 @@ fn differs(numbers: &[u32], n: usize, i: usize) -> bool
     if x == 0 {
         return true;
     }
-    let mut j = i + 1;
-    while j < n {
+    for j in i + 1..n {
         if numbers[j] == x {
             return false;
         }
-        j += 1;
     }
     true
 }
 
 // Whether those of the first n numbers that are not 0 differ from each other.
+#[tactic(auto, using(crate::proofs::Entries::left_next))]
 pub fn all_differ(numbers: &[u32], n: usize) -> bool
     requires { n ≤ length numbers.now }
     ensures { result ≡ differ (take n numbers.now) }
 {
-    let mut i = 0;
-    while i < n {
+    for i in 0..n {
         if !differs(numbers, n, i) {
             return false;
         }
-        i += 1;
     }
     true
 }

@@ -1,3 +1,2 @@
 -- Lemmas of a scan's sum.
-pub mod Signed
 pub mod Sums

@@ -1,6 +1,6 @@
 -- That a running tally is the model's.
 use Rattle.std.specs.Prelude.{◌≡◌, ℕ}
-use Rattle.terms.specs.Measures.{Shape}
+use Rattle.terms.specs.declared.Shape.{Shape}
 use Rattle.layout.specs.View.{View}
 use Rattle.terms.specs.declared.ScanEntry.{ScanEntry}
 use Rattle.model.specs.Reading as R

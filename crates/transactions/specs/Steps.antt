@@ -2,7 +2,7 @@
 use Rattle.std.specs.Prelude.{ℕ, Bool, not, [], ◌∷◌, eqb, get_or}
 use Rattle.history.specs.History.{Commit, any}
 use Rattle.layout.specs.Regions.{index, first_slot}
-use Rattle.terms.specs.Measures.{Shape}
+use Rattle.terms.specs.declared.Shape.{Shape}
 use Rattle.layout.specs.declared.Region.{Region}
 use Rattle.layout.specs.View.{View, renew, put, mark, used_in}
 use Rattle.model.specs.Stored.{next_word}

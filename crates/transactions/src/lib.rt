@@ -19,14 +19,13 @@ ghost use Rattle.transactions.specs.Steps.{noted_at, markable, tail_marked, tail
 
 use layout::codes::{ABORTED, COMMITTED};
 use layout::{HEADER_COMMITS, HEADER_ROWS, HEADER_STAMP, HEADER_TRANSACTIONS, Region, Sizes};
-use loops::Found;
 use pending::{Pending, free_record, next_word, pending_at, put_pending};
 use regions::{find_in, mark_in, read, write};
 use terms::limits::MOST_TRANSACTIONS;
 use terms::{Stamp, Transaction};
 
 // The first free entry for an open transaction.
-pub fn free_index(mem: &[u8], s: Sizes) -> Found
+pub fn free_index(mem: &[u8], s: Sizes) -> Option<usize>
     requires { Suffices s mem.now }
     ensures { result ≡ found_at most_transactions (first_index (λ k. eqb k 0) (view_of s mem.now Region.Opens)) }
 {
@@ -80,11 +79,8 @@ fn mark_tails(mem: &mut [u8], s: Sizes, t: Transaction, k: Region, w: u32)
     requires k_value { (len s k ≡ s.slots) × (index Region.TailTransaction ≡ index k → ⊥) × (index k ≡ index Region.Used → ⊥) }
     ensures { view_of s mem.new ≡ tails_marked (shape_in s) t.0 k w (view_of s mem.old) }
 {
-    let ranges = s.ranges;
-    let mut g = 0;
-    while g < ranges {
+    for g in 0..s.ranges {
         mark_tail(mem, s, t, k, w, g);
-        g += 1;
     }
 }
 

@@ -10,7 +10,6 @@ ghost use Rattle.transactions.specs.Pending.{fresh, one_more, handed_back, owner
 use layout::{Region, Sizes};
 use regions::{read, read_later, write, write_later};
 use terms::Transaction;
-use words::HIGHEST_WORD;
 
 #[derive(Clone, Copy)]
 pub struct Pending {
@@ -23,7 +22,7 @@ pub struct Pending {
 pub fn next_word(n: u32) -> u32
     ensures { result ≡ next_word n }
 {
-    if n == HIGHEST_WORD { 0 } else { n + 1 }
+    n.wrapping_add(1)
 }
 
 impl Pending {
@@ -42,11 +41,9 @@ impl Pending {
     pub fn note(self) -> Pending
         ensures { result ≡ one_more self }
     {
-        let t = self.number;
         Pending {
-            number: t,
             changes: next_word(self.changes),
-            keeper: self.keeper,
+            ..self
         }
     }
 
@@ -61,8 +58,11 @@ impl Pending {
     pub fn owner(self) -> Transaction
         ensures { result.0 ≡ owner self }
     {
-        let t = self.number;
-        if self.changes == 0 { Transaction(0) } else { t }
+        if self.changes == 0 {
+            Transaction(0)
+        } else {
+            self.number
+        }
     }
 }
 

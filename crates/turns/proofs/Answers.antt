@@ -1,20 +1,18 @@
 -- How many bytes the operands of a command can have, what a called request leaves, and a turn from its outcome.
-use Prim.Native.Nat.{ℕ, ◌+◌, ◌*◌, ◌≤◌}
-use native.Mathlib.Omega.{arith}
+use Prim.Native.Nat.{ℕ, ◌≤◌}
 use mathlib.Core.Path.{◌≡◌, ap, ap₂, sym, ◌∙◌}
-use mathlib.Core.Bool.{Bool, true, false, cond}
+use mathlib.Core.Bool.{Bool}
 use mathlib.Core.List.{List}
 use lib.Dec.{T}
 use lib.ListN.{length}
 use borrow.Author.Tests.{le-leb}
-use Rattle.terms.specs.declared.Answer.{Answer}
+use Rattle.std.specs.Prelude.{Ok}
+use Rattle.terms.specs.Answers.{Answer}
 use Rattle.terms.specs.declared.ScanEntry.{ScanEntry}
 use Rattle.lines.specs.Written.{Rendered}
 use Rattle.commands.specs.declared.Format.{Format}
-use Rattle.commands.specs.declared.Chosen.{Chosen}
 use Rattle.commands.specs.declared.Request.{Request}
-use Rattle.commands.specs.Commands.{value_bytes, operands_bytes, total, widths_of, width, call_from, Small}
-use Rattle.commands.proofs.Bytes.{total_most}
+use Rattle.commands.specs.Commands.{width, call_from}
 use Rattle.commands.proofs.Uses.{command_in_place}
 use Rattle.commands.specs.Decoded.{call_in, ZerosPast}
 use Rattle.output.specs.Output.{goes_on}
@@ -27,16 +25,10 @@ use Rattle.requests.specs.Requested.{requested}
 use Rattle.requests.proofs.Values.{given_call}
 use Rattle.turns.specs.Turns.{Does, Turned}
 
--- the operands of a command and the values behind them
-pub width_most : (columns : ℕ) (f : Format) → Small columns f → width columns f ≤ operands_bytes
-width_most columns f h =
-    let operands = total_most (widths_of f) h.0 in
-    elim f.values as (λ b. total (widths_of f) + value_bytes * cond b columns 0 ≤ operands_bytes) [ true ↦ omega (arith, h.1) | false ↦ omega arith ]
-
 -- a request that is decoded from the operands, called
 pub format_called : (x : Lent) (columns : ℕ) (f : Format) (os : List ℕ) (q : Request) (o : Outcome Answer) (m' : List ℕ) (ps' : List ScanEntry) → width columns f ≤ length os
     → (call_in q ≡ call_from columns f os) × ZerosPast q.count q.values → Gives x.memory x.list (requested q) o m' ps'
-    → Does x columns (Chosen.Known f) os o (record { memory = m'; list = ps' })
+    → Does x columns (Ok f) os o (record { memory = m'; list = ps' })
 unfolding Does outcome_to state_after Gives Serves
 format_called x columns f os q o m' ps' h p w =
     let e = le-leb (width columns f) (length os) h in

@@ -4,12 +4,12 @@ use mathlib.Core.Path.{◌≡◌, refl, sym, ◌∙◌}
 use mathlib.Core.Bool.{Bool, true, false, cond}
 use mathlib.Core.List.{List}
 use native.Mathlib.Omega.{arith}
-use native.Mathlib.Nat.{mul-le-mul}
+use native.Mathlib.Nat.{mul-le-mul, min-eq_left}
 use lib.Dec.{leb}
 use lib.ListN.{length, drop}
-use borrow.Author.Tests.{lt-ltb}
-use Rattle.terms.specs.Measures.{Shape, most_scans, most_columns}
-use Rattle.terms.specs.declared.Answer.{Answer}
+use Rattle.terms.specs.Measures.{most_scans}
+use Rattle.terms.specs.declared.Shape.{Shape}
+use Rattle.std.specs.Prelude.{Err}
 use Rattle.terms.specs.declared.Refusal.{Refusal}
 use Rattle.terms.specs.declared.Form.{Form}
 use Rattle.words.specs.Words.{Bytes}
@@ -66,7 +66,7 @@ store_alike x S a cs t =
 -- ---- all lines of an input
 small_columns : (S : Shape) → lent S ≡ true → capped S.columns ≡ S.columns
 unfolding capped
-small_columns S e = let l = lent_to_lem S e in rw (lt-ltb S.columns most_columns (omega arith))
+small_columns S e = let l = lent_to_lem S e in min-eq_left (omega arith)
 
 made_lines : (x : Lent) (S : Shape) (bs : List ℕ) → Bytes bs → bytes_needed Form.Newest largest ≤ length x.memory → most_scans ≤ length x.list
     → lines_from (making_answer x S) lent_machine (capped S.columns) (made_store x S) bs ≡ lines_from (shape_answer S) (history_of S) S.columns start bs
@@ -87,8 +87,8 @@ unfolding GatebookWrites gatebook first_answer first_store columns_from written 
 gatebook_writes x bs b h k =
     rw (whole shape_bytes bs, shape_part bs)
     (elim (leb shape_bytes (length bs)) as (λ c.
-    lines_from (cond c (making_answer x S) (Answer.Refused Refusal.Cut)) lent_machine (capped (cond c S.columns 0)) (cond c (made_store x S) x) bs
-    ≡ lines_from (cond c (shape_answer S) (Answer.Refused Refusal.Cut)) (history_of S) S.columns start bs)
+    lines_from (cond c (making_answer x S) (Err Refusal.Cut)) lent_machine (capped (cond c S.columns 0)) (cond c (made_store x S) x) bs
+    ≡ lines_from (cond c (shape_answer S) (Err Refusal.Cut)) (history_of S) S.columns start bs)
     [ true ↦ made_lines x S bs b h k | false ↦ refl ]
     ∙ written_is_output bs)
   where

@@ -3,8 +3,8 @@ use mathlib.Core.Path.{◌≡◌, refl, ap}
 use mathlib.Core.List.{List, [], ◌∷◌}
 use Prim.Native.Nat.{ℕ}
 use lib.Dec.{T}
-use Rattle.terms.specs.Measures.{Shape}
-use Rattle.terms.specs.declared.Answer.{Answer}
+use Rattle.terms.specs.declared.Shape.{Shape}
+use Rattle.terms.specs.Answers.{Answer}
 use Rattle.terms.specs.declared.Form.{Form}
 use Rattle.history.specs.History.{Call, History, Outcome, Verdict, next, verdict, tests}
 use Rattle.history.specs.Forms.{FormUse, either, newest, moving, form_use, uses_form, in_place, form_after, form_next, Suited}

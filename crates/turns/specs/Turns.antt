@@ -1,8 +1,10 @@
 -- What a turn of `gatebook` gives and leaves, for any memory, scan list and bytes. A turn is a step as the output's definitions have it, with the calls
 -- answered by a store in lent memory.
-use Rattle.std.specs.Prelude.{ℕ, ◌≡◌, cond, List, leb, ltb, length}
-use Rattle.terms.specs.Measures.{Shape, most_columns}
-use Rattle.terms.specs.declared.Answer.{Answer}
+use Rattle.std.specs.Prelude.{ℕ, ◌≡◌, min, cond, List, leb, length}
+use Rattle.terms.specs.Measures.{most_columns}
+use Rattle.terms.specs.declared.Shape.{Shape}
+use Rattle.std.specs.Prelude.{Ok, Err}
+use Rattle.terms.specs.Answers.{Answer}
 use Rattle.terms.specs.declared.Refusal.{Refusal}
 use Rattle.terms.specs.declared.Form.{Form}
 use Rattle.words.specs.Words.{words}
@@ -10,8 +12,7 @@ use Rattle.requests.specs.Packed.{entries_of}
 use Rattle.making.specs.Made.{made}
 use Rattle.lines.specs.Lines.{shape_line}
 use Rattle.lines.specs.Written.{Rendered}
-use Rattle.commands.specs.declared.Chosen.{Chosen}
-use Rattle.commands.specs.Commands.{width, shape_bytes, shape_from}
+use Rattle.commands.specs.Commands.{Chosen, width, shape_bytes, shape_from}
 use Rattle.output.specs.Output.{lent, goes_on}
 use Rattle.output.specs.Steps.{Step, outcome_to, state_after}
 use Rattle.history.specs.History as H
@@ -27,7 +28,7 @@ store_in m l = record { memory = m; list = entries_of (words l) }
 -- ---- the shape's turn, over the bytes bs
 -- a store of shape S is made, in the newest form, where memory is lent for it
 unfoldable pub making_answer : Lent → Shape → Answer
-making_answer x S = cond (lent S) (made Form.Newest S (length x.list) x.memory).0 (Answer.Refused Refusal.Shape)
+making_answer x S = cond (lent S) (made Form.Newest S (length x.list) x.memory).0 (Err Refusal.Shape)
 
 unfoldable pub made_store : Lent → Shape → Lent
 made_store x S =
@@ -36,7 +37,7 @@ made_store x S =
     x
 
 unfoldable pub first_answer : Lent → List ℕ → Answer
-first_answer x bs = cond (leb shape_bytes (length bs)) (making_answer x (shape_from bs)) (Answer.Refused Refusal.Cut)
+first_answer x bs = cond (leb shape_bytes (length bs)) (making_answer x (shape_from bs)) (Err Refusal.Cut)
 
 unfoldable pub first_store : Lent → List ℕ → Lent
 first_store x bs = cond (leb shape_bytes (length bs)) (made_store x (shape_from bs)) x
@@ -51,12 +52,12 @@ columns_from bs = cond (leb shape_bytes (length bs)) (shape_from bs).columns 0
 -- ---- a command's turn
 -- No shape has more columns than the most; a greater number counts as the most, so that a turn has a meaning for every number.
 unfoldable pub capped : ℕ → ℕ
-capped columns = cond (ltb columns most_columns) columns most_columns
+capped columns = min columns most_columns
 
 -- how many bytes of operands are read
 unfoldable pub operand_width : ℕ → Chosen → ℕ
-operand_width columns (Chosen.Known f) = width columns f
-operand_width columns (Chosen.Refused r) = 0
+operand_width columns (Ok f) = width columns f
+operand_width columns (Err r) = 0
 
 -- ---- what the code promises
 -- an outcome, and the store after it

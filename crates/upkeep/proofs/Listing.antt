@@ -3,36 +3,27 @@ use Prim.Native.Nat.{ℕ, suc, ◌≤◌, ◌<◌}
 use mathlib.Core.Path.{◌≡◌, refl, ap, sym, ◌∙◌}
 use mathlib.Core.Bool.{Bool, true, false, not, cond}
 use mathlib.Core.List.{List, [], ◌∷◌}
-use native.Mathlib.Omega.{arith}
 use lib.Dec.{eqb, leb}
 use lib.ListN.{length, get_or, set, take}
-use lib.Seq.{set_out}
 use borrow.Author.Tests.{le-leb, lt-leb}
 use Rattle.terms.specs.declared.Form.{Form}
 use Rattle.terms.specs.Measures.{most_numbers, most_scans}
 use Rattle.terms.specs.declared.ScanEntry.{ScanEntry}
-use Rattle.terms.specs.declared.Answer.{Answer}
+use Rattle.std.specs.Prelude.{Ok, Some}
 use Rattle.terms.specs.Entries.{first_index, free_entry, is_scan}
-use Rattle.loops.specs.declared.Found.TheVariants.{At}
 use Rattle.layout.specs.declared.Sizes.{Sizes}
 use Rattle.layout.specs.View.{View, scans_given, view_of}
 use Rattle.history.specs.History.{Call, count}
 use Rattle.scans.specs.declared.Scans.{Scans}
 use Rattle.scans.specs.Entries.{open_count, opened}
 use Rattle.scans.specs.Table.{table_of}
-use Rattle.scans.proofs.Table.{table_length}
 use Rattle.scans.proofs.Answers.{table_count}
 use Rattle.model.specs.Calls.{new_entry, entries_after}
-use Rattle.promise.specs.Promise.{Serves, ServesBy, kept}
-use Rattle.admission.specs.declared.Admission.{Admission}
-use Rattle.admission.specs.declared.Tested.{Tested}
 use Rattle.admission.specs.Admitted.{Admits}
 use Rattle.admission.specs.Given.{ScanAt}
 use Rattle.admission.specs.Tested.{Finds, IfPassed}
-use Rattle.admission.proofs.Served.{admitted, part_seen, found, if_passed}
+use Rattle.admission.proofs.Served.{admitted, part_seen, found, if_passed, scan_below}
 use Rattle.admission.proofs.Scans.{in_table, scan_at_lem}
-use Rattle.upkeep.specs.declared.ListChange.{ListChange}
-use Rattle.upkeep.specs.Lists.{changed_at}
 
 -- ---- the list
 -- the open entries, counted
@@ -60,14 +51,6 @@ module _ (t : Scans) (ps : List ScanEntry) (q : t ≡ table_of ps) where
   free_is = ap (λ (x : Scans). x.free) q
 
 -- ---- what a call leaves
--- a refused one names an index past the end, and so leaves the list
-pub unlisted_serves : (t : Scans) (m : List ℕ) (c : Call) (a : Answer) (r : ListChange) → (r.answer ≡ a) × (r.index ≡ t.length) → ServesBy t m c a m kept
-    → ServesBy t m c r.answer m (changed_at r)
-unfolding ServesBy Serves
-unlisted_serves t m c a r u h = λ ps q.
-    let z = h ps q in
-    let l : set ps r.index r.entry ≡ ps = set_out ps r.index r.entry (omega (arith, u.1, table_length t ps q)) in (u.0 ∙ z.0, z.1, l ∙ z.2)
-
 -- an opened scan stands in the first free entry
 pub opened_list : (t : Scans) (ps : List ScanEntry) (v : View) (stamp i : ℕ) (p : ScanEntry) → t ≡ table_of ps → i ≡ t.free
     → p ≡ new_entry v stamp → set ps i p ≡ entries_after v ps (Call.open_scan stamp)
@@ -75,18 +58,20 @@ unfolding entries_after
 opened_list t ps v stamp i p q e y = rw (e ∙ free_is t ps q, y)
 
 -- a number is left for it
-pub number_left : (s : Sizes) (m : List ℕ) (d : Tested) (i : ℕ) → d ≡ Tested.Passed i → IfPassed d (scans_given (view_of s m) < most_numbers) → scans_given (view_of s m) < most_numbers
-number_left s m d i x h = if_passed d _ i x h
+pub number_left : (s : Sizes) (m : List ℕ) (i : ℕ) → IfPassed (Ok i) (scans_given (view_of s m) < most_numbers) → scans_given (view_of s m) < most_numbers
+number_left s m i h = if_passed _ i h
 
-pub number_in_part : (on : Form → Bool) (e : Admission) (s : Sizes) (n : ℕ) (m : List ℕ) (t : Scans) (d : Tested) (i : ℕ) → e ≡ Admission.Fit s n → Admits on e m t → d ≡ Tested.Passed i
-    → IfPassed d (scans_given (view_of s m) < most_numbers) → scans_given (view_of s (take n m)) < most_numbers
-number_in_part on e s n m t d i a b x h = rw (part_seen (admitted on e s n m t a b).0) (number_left s m d i x h)
+pub number_in_part : (on : Form → Bool) (s : Sizes) (n : ℕ) (m : List ℕ) (t : Scans) (i : ℕ) → Admits on (Ok (s, n)) m t
+    → IfPassed (Ok i) (scans_given (view_of s m) < most_numbers) → scans_given (view_of s (take n m)) < most_numbers
+number_in_part on s n m t i b h = rw (part_seen (admitted on s n m t b).0) (number_left s m i h)
 
 -- a closed one leaves its entry free
-pub closed_list : (t : Scans) (ps : List ScanEntry) (v : View) (d : Tested) (k j : ℕ) (p : ScanEntry) → t ≡ table_of ps → open_count ps ≤ most_scans → d ≡ Tested.Passed j
-    → Finds d (ScanAt t k) → p ≡ free_entry → set ps (get_or t.indices j 0) p ≡ entries_after v ps (Call.close k)
+pub closed_list : (t : Scans) (ps : List ScanEntry) (v : View) (k j : ℕ) (p : ScanEntry) → t ≡ table_of ps → open_count ps ≤ most_scans
+    → Finds (Ok j) (ScanAt t k) → p ≡ free_entry → set ps (get_or t.indices j 0) p ≡ entries_after v ps (Call.close k)
 unfolding entries_after
-closed_list t ps v d k j p q few x f e =
-    let g = (found d (ScanAt t k) j x f).found in
-    let i : get_or t.indices j 0 ≡ first_index (is_scan k) ps = ap (λ (x : Scans). get_or x.indices j 0) q ∙ sym (scan_at_lem k ps few j (in_table t ps q k (At j) g)) in
+closed_list t ps v k j p q few f e =
+    let g = (found (ScanAt t k) j f).found in
+    let i : get_or t.indices j 0 ≡ first_index (is_scan k) ps = ap (λ (x : Scans). get_or x.indices j 0) q ∙ sym (scan_at_lem k ps few j (in_table t ps q k (Some j) g)) in
     rw (i, e)
+
+pub ruleset listing = (all_open, some_free, number_left, number_in_part, scan_below)

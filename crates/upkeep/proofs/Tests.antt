@@ -9,9 +9,10 @@ use lib.Dec.{leb, ltb}
 use lib.ListN.{take}
 use borrow.Author.Tests.{ltb-true, ltb-false, le-leb, lt-leb, lt-ltb, le-ltb}
 use Rattle.terms.specs.declared.Form.{Form}
-use Rattle.terms.specs.Measures.{Shape, most_scans}
+use Rattle.terms.specs.Measures.{most_scans}
+use Rattle.terms.specs.declared.Shape.{Shape}
 use Rattle.terms.specs.declared.ScanEntry.{ScanEntry}
-use Rattle.loops.specs.declared.Found.{Found}
+use Rattle.std.specs.Prelude.{Option, Some, None, Result, Ok}
 use Rattle.layout.specs.declared.Sizes.{Sizes}
 use Rattle.layout.specs.View.{View, used_in, view_of}
 use Rattle.scans.specs.declared.Scans.{Scans}
@@ -24,37 +25,36 @@ use Rattle.layout.specs.Sizes.{Proper}
 use Rattle.model.specs.Preconditions.{shape_in}
 use Rattle.loops.specs.Search.{found_at}
 use Rattle.merging.specs.Steps.{MergeReady}
-use Rattle.admission.specs.declared.Admission.{Admission}
-use Rattle.admission.specs.declared.Tested.{Tested}
+use Rattle.terms.specs.declared.Refusal.{Refusal}
 use Rattle.admission.specs.Admitted.{Fitted, Admits}
 use Rattle.admission.specs.Tested.{Says, Finds}
 use Rattle.upkeep.specs.Lists.{reach_tests}
 use Rattle.admission.proofs.Served.{admitted, part_seen, found}
 
 -- ---- the first free page
-found_here : (n i j : ℕ) → found_at n i ≡ Found.At j → (i < n) × (j ≡ i)
+found_here : (n i j : ℕ) → found_at n i ≡ Some j → (i < n) × (j ≡ i)
 found_here n i j e = go (ltb i n) refl e
   where
-    go : (b : Bool) → ltb i n ≡ b → cond b (Found.At i) Found.Nothing ≡ Found.At j → (i < n) × (j ≡ i)
+    go : (b : Bool) → ltb i n ≡ b → cond b (Some i) None ≡ Some j → (i < n) × (j ≡ i)
     go true q f = (ltb-true i n q, cc)
     go false q f = let z : ◌≡◌ {A = ℕ} 0 1 = cc in absurd (omega arith)
 
-found_none : (n i : ℕ) → found_at n i ≡ Found.Nothing → n ≤ i
+found_none : (n i : ℕ) → found_at n i ≡ None → n ≤ i
 found_none n i e = go (ltb i n) refl e
   where
-    go : (b : Bool) → ltb i n ≡ b → cond b (Found.At i) Found.Nothing ≡ Found.Nothing → n ≤ i
+    go : (b : Bool) → ltb i n ≡ b → cond b (Some i) None ≡ None → n ≤ i
     go true q f = let z : ◌≡◌ {A = ℕ} 0 1 = cc in absurd (omega arith)
     go false q f = ltb-false i n q
 
-module _ (s : Sizes) (v : View) (f : Found) (p : Proper s) (q : f ≡ found_at s.pages (free_in (shape_in s) v)) where
+module _ (s : Sizes) (v : View) (f : Option ℕ) (p : Proper s) (q : f ≡ found_at s.pages (free_in (shape_in s) v)) where
   pages : s.pages ≡ pages_of (shape_in s)
   pages = omega (arith, p.pages_are, p.chunks_are)
 
-  pub no_page_lem : f ≡ Found.Nothing → leb (pages_of (shape_in s)) (free_in (shape_in s) v) ≡ true
+  pub no_page_lem : f ≡ None → leb (pages_of (shape_in s)) (free_in (shape_in s) v) ≡ true
   no_page_lem e =
       le-leb (pages_of (shape_in s)) (free_in (shape_in s) v) (omega (arith, pages, found_none s.pages (free_in (shape_in s) v) (sym q ∙ e)))
 
-  module _ (j : ℕ) (e : f ≡ Found.At j) where
+  module _ (j : ℕ) (e : f ≡ Some j) where
     here : (free_in (shape_in s) v < s.pages) × (j ≡ free_in (shape_in s) v)
     here = found_here s.pages (free_in (shape_in s) v) j (sym q ∙ e)
 
@@ -77,8 +77,8 @@ module _ (s : Sizes) (m : List ℕ) (g n used : ℕ) (w : Fitted s m) (h : g < s
   pub through_few : n ≤ s.capacity
   through_few = omega (arith, w.linked.used_few g h)
 
-  pub merge_ready : (c low p : ℕ) (f : Found) → c < s.columns → low ≡ (page_in (view_of s m) (current_in (shape_in s) (view_of s m) g c)).lineage → low < n
-      → f ≡ found_at s.pages (free_in (shape_in s) (view_of s m)) → f ≡ Found.At p → MergeReady s (view_of s m) g c n p
+  pub merge_ready : (c low p : ℕ) (f : Option ℕ) → c < s.columns → low ≡ (page_in (view_of s m) (current_in (shape_in s) (view_of s m) g c)).lineage → low < n
+      → f ≡ found_at s.pages (free_in (shape_in s) (view_of s m)) → f ≡ Some p → MergeReady s (view_of s m) g c n p
   merge_ready c low p f x y l q z =
       let free = here s (view_of s m) f w.proper q p z in
       record {
@@ -92,7 +92,7 @@ module _ (s : Sizes) (m : List ℕ) (g n used : ℕ) (w : Fitted s m) (h : g < s
       }
 
 -- the lineage of the page was read before
-pub reach_says : (d : Tested) (S : Shape) (v : View) (g c low n : ℕ) → low ≡ (page_in v (current_in S v g c)).lineage → Says d (verdict (reach_tests S v g low n))
+pub reach_says : (d : Result ℕ Refusal) (S : Shape) (v : View) (g c low n : ℕ) → low ≡ (page_in v (current_in S v g c)).lineage → Says d (verdict (reach_tests S v g low n))
     → Says d (verdict (reach_tests S v g (page_in v (current_in S v g c)).lineage n))
 reach_says d S v g c low n e h = rw e at h
 
@@ -102,6 +102,8 @@ unfolding table_of
 table_few t ps e = rw e (min-le_left most_scans (open_count ps))
 
 -- ---- what a merge asks for, by what its tests found
-pub mergeable : (on : Form → Bool) (e : Admission) (s : Sizes) (n : ℕ) (m : List ℕ) (t : Scans) (d : Tested) (g c k p : ℕ) → e ≡ Admission.Fit s n → Admits on e m t → d ≡ Tested.Passed p
-    → Finds d (MergeReady s (view_of s m) g c k) → MergeReady s (view_of s (take n m)) g c k p
-mergeable on e s n m t d g c k p a b x y = rw (part_seen (admitted on e s n m t a b).0) (found d _ p x y)
+pub mergeable : (on : Form → Bool) (s : Sizes) (n : ℕ) (m : List ℕ) (t : Scans) (g c k p : ℕ) → Admits on (Ok (s, n)) m t
+    → Finds (Ok p) (MergeReady s (view_of s m) g c k) → MergeReady s (view_of s (take n m)) g c k p
+mergeable on s n m t g c k p b y = rw (part_seen (admitted on s n m t b).0) (found _ p y)
+
+pub ruleset merging = (no_page_lem, page_left, too_low, too_high, in_reach, through_few, merge_ready, reach_says, mergeable)

@@ -1,11 +1,10 @@
 // The calls that keep the store in order, over a lent memory and the table of the scan list: merge, release, open scan, close scan. Each call is the test of memory
 // and list, the call's own tests in the order of section 4 of docs/SPECIFICATION.md, and then what it writes. The scan list itself is not lent here: open and close answer the one entry of
 // it that changes, and what stands there then.
-#![tactic(auto)]
+#![tactic(auto, using(admission::proofs::Served::serving, admission::proofs::Decided::deciding, admission::proofs::Decided::scan_entry_lem, crate::proofs::Tests::merging, crate::proofs::Listing::listing), unfolding(admission::specs::Tested::IfPassed, admission::specs::Tested::Finds, admission::specs::Tested::Tests, admission::specs::Tested::TestsBy, model::specs::Calls::tests_in, model::specs::Calls::out_of_reach_in, model::specs::Calls::reply_in, model::specs::Calls::act_in, model::specs::Calls::entries_after))]
 
-ghost use Rattle.std.specs.Prelude.{◌≡◌, List, ℕ, ◌<◌, ◌*◌, ◌+◌, length};
+ghost use Rattle.std.specs.Prelude.{◌≡◌, List, ℕ, ◌<◌, ◌*◌, ◌+◌};
 ghost use Rattle.terms.specs.Measures.{most_numbers};
-ghost use Rattle.terms.specs.declared.Answer.{Answer};
 ghost use Rattle.layout.specs.declared.Sizes.{Sizes};
 ghost use Rattle.layout.specs.View.{scans_given, view_of, Suffices, put};
 ghost use Rattle.layout.specs.declared.Region.{Region};
@@ -20,23 +19,22 @@ ghost use Rattle.promise.specs.Promise.{ServesBy, kept};
 ghost use Rattle.admission.specs.Admitted.{Fitted};
 ghost use Rattle.admission.specs.Tested.{Says, Finds, IfPassed, Tests, TestsBy};
 ghost use Rattle.admission.specs.Given.{ScanAt};
-ghost use Rattle.upkeep.specs.Lists.{changed_at, reach_tests};
+ghost use Rattle.upkeep.specs.Lists.{answer_in, changed_at, reach_tests};
 
-use admission::{Admission, Tested, admit, later, no_column, no_range};
+use admission::{admit, later, no_column, no_range};
 use conditions::any_open;
 use layout::{HEADER_COMMITS, HEADER_MERGES, HEADER_SCANS, Region, Sizes};
-use loops::Found;
 use merging::free_page;
 use model::free_entry;
 use regions::{read, write};
 use scans::{Scans, find_scan};
 use terms::limits::{MOST_NUMBERS, MOST_SCANS};
-use terms::{Answer, Refusal, ScanEntry, Stamp, Tail};
+use terms::{Answer, Fields, Refusal, ScanEntry, Stamp, Tail};
 
-// What a call on the scan list leaves: its answer, and the index in the list of what becomes `entry`. An index past the list's end changes nothing.
+// What an accepted call on the scan list leaves: the fields that it answers, and the index in the list of what becomes `entry`.
 #[derive(Clone, Copy)]
 pub struct ListChange {
-    pub answer: Answer,
+    pub fields: Fields,
     pub index: usize,
     pub entry: ScanEntry,
 }
@@ -55,7 +53,14 @@ fn current_lineage(mem: &[u8], s: Sizes, g: usize, c: usize) -> Tail
 
 // The last tests of a merge of column c of range g, whose current page has the lineage `low`: whether `through` is in reach, no record up to it is open, and a page
 // is free.
-fn reach_tests(mem: &[u8], s: Sizes, g: usize, c: usize, low: Tail, through: Tail) -> Tested
+fn reach_tests(
+    mem: &[u8],
+    s: Sizes,
+    g: usize,
+    c: usize,
+    low: Tail,
+    through: Tail,
+) -> Result<usize, Refusal>
     requires fitted { Fitted s mem.now }
     requires g_lt_ranges { (g < s.ranges) × (c < s.columns) }
     requires low_value { low.0 ≡ (page_in (view_of s mem.now) (current_in (shape_in s) (view_of s mem.now) g c)).lineage }
@@ -63,31 +68,34 @@ fn reach_tests(mem: &[u8], s: Sizes, g: usize, c: usize, low: Tail, through: Tai
     ensures finds { Finds result (MergeReady s (view_of s mem.now) g c through.0) }
 {
     if through.0 <= low.0 {
-        return Tested::Failed(Refusal::Reach);
+        return Err(Refusal::Reach);
     }
     if through.0 > read(mem, s, Region::Used, g) {
-        return Tested::Failed(Refusal::Reach);
+        return Err(Refusal::Reach);
     }
     if any_open(mem, s, g, through) {
-        return Tested::Failed(Refusal::Open);
+        return Err(Refusal::Open);
     }
-    let Found::At(page) = free_page(mem, s) else {
-        return Tested::Failed(Refusal::NoPage);
-    };
-    Tested::Passed(page)
+    free_page(mem, s).ok_or(Refusal::NoPage)
 }
 
 // The tests of merge; where they are passed, a free page.
-fn merge_tests(mem: &[u8], s: Sizes, range: u32, column: u32, through: Tail) -> Tested
+fn merge_tests(
+    mem: &[u8],
+    s: Sizes,
+    range: u32,
+    column: u32,
+    through: Tail,
+) -> Result<usize, Refusal>
     requires { Fitted s mem.now }
     ensures tests { Tests s mem.now (Call.merge range column through.0) result }
     ensures finds { Finds result (MergeReady s (view_of s mem.now) range column through.0) }
 {
     if no_range(s, range) {
-        return Tested::Failed(Refusal::Range);
+        return Err(Refusal::Range);
     }
     if no_column(s, column) {
-        return Tested::Failed(Refusal::Column);
+        return Err(Refusal::Column);
     }
     let g = range as usize;
     let c = column as usize;
@@ -99,23 +107,17 @@ fn merge_tests(mem: &[u8], s: Sizes, range: u32, column: u32, through: Tail) -> 
 pub fn merge(mem: &mut [u8], scans: Scans, range: u32, column: u32, through: Tail) -> Answer
     ensures { ServesBy scans mem.old (Call.merge range column through.0) result mem.new kept }
 {
-    let Admission::Fit(s, n) = admit(mem, scans) else {
-        return Answer::Refused(Refusal::Memory);
-    };
-    match merge_tests(mem, s, range, column, through) {
-        Tested::Failed(x) => Answer::Refused(x),
-        Tested::Passed(page) => {
-            merging::merge(
-                &mut mem[..n],
-                s,
-                range as usize,
-                column as usize,
-                through,
-                page,
-            );
-            Answer::Done
-        }
-    }
+    let (s, n) = admit(mem, scans)?;
+    let page = merge_tests(mem, s, range, column, through)?;
+    merging::merge(
+        &mut mem[..n],
+        s,
+        range as usize,
+        column as usize,
+        through,
+        page,
+    );
+    Ok(Fields::Done)
 }
 
 // ---- release
@@ -125,44 +127,31 @@ pub fn release(mem: &mut [u8], scans: Scans) -> Answer
     ensures { ServesBy scans mem.old Call.release result mem.new kept }
 {
     if scans.count > MOST_SCANS {
-        return Answer::Refused(Refusal::Memory);
+        return Err(Refusal::Memory);
     }
-    let Admission::Fit(s, n) = admit(mem, scans) else {
-        return Answer::Refused(Refusal::Memory);
-    };
-    Answer::Number(merging::release(&mut mem[..n], s, scans))
+    let (s, n) = admit(mem, scans)?;
+    Ok(Fields::Number(merging::release(&mut mem[..n], s, scans)))
 }
 
 // ---- open and close
 
-// A call that was refused changes no entry of the list.
-fn unlisted(scans: Scans, why: Refusal) -> ListChange
-    ensures { (result.answer ≡ Answer.Refused why) × (result.index ≡ scans.length) }
-{
-    ListChange {
-        answer: Answer::Refused(why),
-        index: scans.length,
-        entry: free_entry(),
-    }
-}
-
 // The tests of open scan; where they are passed, the index of the list's first free entry, which the scan takes.
-fn open_tests(mem: &[u8], s: Sizes, scans: Scans, stamp: Stamp) -> Tested
+fn open_tests(mem: &[u8], s: Sizes, scans: Scans, stamp: Stamp) -> Result<usize, Refusal>
     requires { Fitted s mem.now }
     ensures tests_by { TestsBy scans s mem.now (Call.open_scan stamp.0) result }
     ensures finds { Finds result (λ j. j ≡ scans.free) }
     ensures if_passed { IfPassed result (scans_given (view_of s mem.now) < most_numbers) }
 {
     if later(mem, s, stamp) {
-        return Tested::Failed(Refusal::Time);
+        return Err(Refusal::Time);
     }
     if read(mem, s, Region::Header, HEADER_SCANS) >= MOST_NUMBERS {
-        return Tested::Failed(Refusal::Number);
+        return Err(Refusal::Number);
     }
     if scans.count >= MOST_SCANS {
-        return Tested::Failed(Refusal::Busy);
+        return Err(Refusal::Busy);
     }
-    Tested::Passed(scans.free)
+    Ok(scans.free)
 }
 
 // A scan gets the next number; its entry in the scan list is not written here.
@@ -191,52 +180,37 @@ fn new_entry(mem: &[u8], s: Sizes, stamp: Stamp) -> ScanEntry
 }
 
 // A scan is opened at a stamp; the answer is its number.
-pub fn open_scan(mem: &mut [u8], scans: Scans, stamp: Stamp) -> ListChange
-    ensures { ServesBy scans mem.old (Call.open_scan stamp.0) result.answer mem.new (changed_at result) }
+pub fn open_scan(mem: &mut [u8], scans: Scans, stamp: Stamp) -> Result<ListChange, Refusal>
+    ensures { ServesBy scans mem.old (Call.open_scan stamp.0) (answer_in result) mem.new (changed_at result) }
 {
-    let Admission::Fit(s, n) = admit(mem, scans) else {
-        return unlisted(scans, Refusal::Memory);
-    };
-    match open_tests(mem, s, scans, stamp) {
-        Tested::Failed(x) => unlisted(scans, x),
-        Tested::Passed(index) => {
-            let entry = new_entry(mem, s, stamp);
-            ListChange {
-                answer: Answer::Number(give_scan(&mut mem[..n], s)),
-                index: index,
-                entry: entry,
-            }
-        }
-    }
+    let (s, n) = admit(mem, scans)?;
+    let index = open_tests(mem, s, scans, stamp)?;
+    let entry = new_entry(mem, s, stamp);
+    let fields = Fields::Number(give_scan(&mut mem[..n], s));
+    Ok(ListChange {
+        fields,
+        index,
+        entry,
+    })
 }
 
 // The test of close; where it is passed, the scan's index in the table.
-fn close_tests(scans: Scans, scan: u32) -> Tested
+fn close_tests(scans: Scans, scan: u32) -> Result<usize, Refusal>
     ensures tests_by { (s : Sizes) (m : List ℕ) → TestsBy scans s m (Call.close scan) result }
     ensures finds { Finds result (ScanAt scans scan) }
 {
-    let Found::At(i) = find_scan(scans, scan) else {
-        return Tested::Failed(Refusal::Scan);
-    };
-    Tested::Passed(i)
+    find_scan(scans, scan).ok_or(Refusal::Scan)
 }
 
 // A scan is closed: its entry is free again.
-pub fn close_scan(mem: &[u8], scans: Scans, scan: u32) -> ListChange
-    ensures { ServesBy scans mem.now (Call.close scan) result.answer mem.now (changed_at result) }
+pub fn close_scan(mem: &[u8], scans: Scans, scan: u32) -> Result<ListChange, Refusal>
+    ensures { ServesBy scans mem.now (Call.close scan) (answer_in result) mem.now (changed_at result) }
 {
-    let Admission::Fit(_, _) = admit(mem, scans) else {
-        return unlisted(scans, Refusal::Memory);
-    };
-    match close_tests(scans, scan) {
-        Tested::Failed(x) => unlisted(scans, x),
-        Tested::Passed(i) => {
-            let indices = scans.indices;
-            ListChange {
-                answer: Answer::Done,
-                index: indices[i],
-                entry: free_entry(),
-            }
-        }
-    }
+    admit(mem, scans)?;
+    let i = close_tests(scans, scan)?;
+    Ok(ListChange {
+        fields: Fields::Done,
+        index: scans.indices[i],
+        entry: free_entry(),
+    })
 }

@@ -15,7 +15,8 @@ use mir.Syntax.{w32}
 use mir.Val.{of_z, to_z, hbits}
 use mir.ValLaws.{to_z-of_z}
 use lib.Signed.{mag}
-use Rattle.terms.specs.Measures.{Shape, range_rows}
+use Rattle.terms.specs.Measures.{range_rows}
+use Rattle.terms.specs.declared.Shape.{Shape}
 use Rattle.history.specs.History.{range_of}
 use Rattle.layout.specs.declared.Sizes.{Sizes}
 use Rattle.layout.specs.declared.Region.{Region}

@@ -7,7 +7,7 @@ ghost use Rattle.terms.specs.Measures.{range_rows};
 ghost use Rattle.history.specs.History.{range_of};
 ghost use Rattle.layout.specs.Regions.{len, slot};
 ghost use Rattle.layout.specs.declared.Region.{Region};
-ghost use Rattle.layout.specs.View.{put, rows_given, used_in, view_of, Suffices};
+ghost use Rattle.layout.specs.View.{rows_given, used_in, view_of, Suffices};
 ghost use Rattle.model.specs.Writing.{inserted_in, appended, new_bits, records_wanted, setting_appended, updated_in, deleted_in};
 ghost use Rattle.layout.specs.Sizes.{Proper};
 ghost use Rattle.model.specs.Preconditions.{shape_in, Pooled, OpenAt};
@@ -69,14 +69,13 @@ fn put_row(mem: &mut [u8], s: Sizes, t: Transaction, keeper: u32, row: Row)
     write(mem, s, Region::RowMask, i, 0);
 }
 
-// The value of a column into a cell of a range's current page.
-fn put_cell(mem: &mut [u8], s: Sizes, chunk: usize, i: usize, w: u32)
-    requires suffices { Suffices s mem.old }
-    requires chunk_lt_chunks { (chunk < s.chunks) × (i < range_rows) × (get_or (view_of s mem.old Region.Current) chunk 0 < s.pages) }
-    ensures { view_of s mem.new ≡ put Region.Cells (get_or (view_of s mem.old Region.Current) chunk 0 * range_rows + i) w (view_of s mem.old) }
+// Where cell i of a range and column's current page lies.
+fn cell_at(mem: &[u8], s: Sizes, chunk: usize, i: usize) -> usize
+    requires suffices { Suffices s mem.now }
+    requires chunk_lt_chunks { (chunk < s.chunks) × (i < range_rows) × (get_or (view_of s mem.now Region.Current) chunk 0 < s.pages) }
+    ensures { (result ≡ get_or (view_of s mem.now Region.Current) chunk 0 * range_rows + i) × (result < len s Region.Cells) }
 {
-    let page = read(mem, s, Region::Current, chunk) as usize;
-    write(mem, s, Region::Cells, page * RANGE_ROWS + i, w);
+    read(mem, s, Region::Current, chunk) as usize * RANGE_ROWS + i
 }
 
 // The values of a row into cell i of the current pages of range g.
@@ -86,12 +85,10 @@ fn put_cells(mem: &mut [u8], s: Sizes, g: usize, i: usize, vs: [i32; MOST_COLUMN
     requires g_lt_ranges { (g < s.ranges) × (i < range_rows) }
     ensures { view_of s mem.new ≡ cells_put (shape_in s) g i vs (view_of s mem.old) }
 {
-    let columns = s.columns;
-    let first = g * columns;
-    let mut c = 0;
-    while c < columns {
-        put_cell(mem, s, first + c, i, to_word(vs[c]));
-        c += 1;
+    let first = g * s.columns;
+    for c in 0..s.columns {
+        let at = cell_at(mem, s, first + c, i);
+        write(mem, s, Region::Cells, at, to_word(vs[c]));
     }
 }
 
@@ -175,16 +172,6 @@ fn newest_values(mem: &[u8], s: Sizes, g: usize) -> usize
     (g * s.capacity + (used - 1)) * s.columns
 }
 
-// The word of a column in cell i of a range's current page.
-fn cell_word(mem: &[u8], s: Sizes, chunk: usize, i: usize) -> u32
-    requires suffices { Suffices s mem.now }
-    requires chunk_lt_chunks { (chunk < s.chunks) × (i < range_rows) × (get_or (view_of s mem.now Region.Current) chunk 0 < s.pages) }
-    ensures { result ≡ get_or (view_of s mem.now Region.Cells) (get_or (view_of s mem.now Region.Current) chunk 0 * range_rows + i) 0 }
-{
-    let page = read(mem, s, Region::Current, chunk) as usize;
-    read(mem, s, Region::Cells, page * RANGE_ROWS + i)
-}
-
 // The newest record of range g holds the words of cell i of the range's current pages.
 fn fill_cells(mem: &mut [u8], s: Sizes, g: usize, i: usize)
     requires suffices { Suffices s mem.old }
@@ -192,14 +179,11 @@ fn fill_cells(mem: &mut [u8], s: Sizes, g: usize, i: usize)
     requires newest { Newest s (view_of s mem.old) g × (i < range_rows) }
     ensures { view_of s mem.new ≡ newest_filled (shape_in s) g (cell_words (shape_in s) (view_of s mem.old) g i) (view_of s mem.old) }
 {
-    let columns = s.columns;
     let to = newest_values(mem, s, g);
-    let first = g * columns;
-    let mut c = 0;
-    while c < columns {
-        let w = cell_word(mem, s, first + c, i);
+    let first = g * s.columns;
+    for c in 0..s.columns {
+        let w = read(mem, s, Region::Cells, cell_at(mem, s, first + c, i));
         write(mem, s, Region::TailValues, to + c, w);
-        c += 1;
     }
 }
 
@@ -210,12 +194,9 @@ fn fill_values(mem: &mut [u8], s: Sizes, g: usize, vs: [i32; MOST_COLUMNS])
     requires newest { Newest s (view_of s mem.old) g }
     ensures { view_of s mem.new ≡ newest_filled (shape_in s) g (value_words vs) (view_of s mem.old) }
 {
-    let columns = s.columns;
     let to = newest_values(mem, s, g);
-    let mut c = 0;
-    while c < columns {
+    for c in 0..s.columns {
         write(mem, s, Region::TailValues, to + c, to_word(vs[c]));
-        c += 1;
     }
 }
 
@@ -286,8 +267,6 @@ fn append_records(
     let fresh = new_bits(mask, read(mem, s, Region::RowMask, row.0 as usize));
     if fresh != 0 {
         append_original(mem, s, t, row, fresh);
-        append_setting(mem, s, t, keeper, row, mask, vs);
-        return;
     }
     append_setting(mem, s, t, keeper, row, mask, vs);
 }

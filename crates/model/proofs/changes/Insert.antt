@@ -16,7 +16,8 @@ use borrow.Author.Tests.{ne_eqb}
 use mir.Syntax.{w32}
 use mir.Val.{to_z, of_z, SFits}
 use mir.ValLaws.{to_z-of_z, of_z_fits}
-use Rattle.terms.specs.Measures.{Shape, range_rows}
+use Rattle.terms.specs.Measures.{range_rows}
+use Rattle.terms.specs.declared.Shape.{Shape}
 use Rattle.terms.specs.declared.Form.{Form}
 use Rattle.history.specs.History.{insert, History, Row, Record, State, active, state_of, keeper_of, row_at, bit, sets, range_of, records_of, merged_through, scan_at, seen_at, with_rows, commit_of}
 use Rattle.history.specs.Lists.{All, nil, cons}

@@ -11,7 +11,7 @@ use lib.Dec.{T, eqb}
 use lib.ListN.{length, get_or, set, length-set, get_or-eq_default}
 use lib.Seq.{get_or-set_same, get_or-set_other}
 use borrow.Author.Tests.{ne_eqb}
-use Rattle.terms.specs.Measures.{Shape}
+use Rattle.terms.specs.declared.Shape.{Shape}
 use Rattle.terms.specs.declared.Form.{Form}
 use Rattle.history.specs.History.{History, Row, Record, Content, original, setting, ending, State, active, nth, is_active, unknown_keeper, state_of, keeper_of, borne_by, bearer, row_at, records_of, unknown, aborted, committed}
 use Rattle.history.specs.Records.{no_record}

@@ -12,7 +12,8 @@ use lib.Dec.{T, eqb, eqb→eq}
 use lib.ListN.{length, get_or, get_or-eq_default}
 use lib.Seq.{take_all}
 use borrow.Author.Tests.{ne_eqb}
-use Rattle.terms.specs.Measures.{Shape, most_transactions}
+use Rattle.terms.specs.Measures.{most_transactions}
+use Rattle.terms.specs.declared.Shape.{Shape}
 use Rattle.terms.specs.declared.Form.{Form}
 use Rattle.terms.specs.declared.ScanEntry.{ScanEntry}
 use Rattle.terms.specs.Entries.{bears, first_index}

@@ -10,7 +10,8 @@ use native.Mathlib.Decide.{ℕ_discrete}
 use lib.Dec.{eqb}
 use lib.ListN.{length, get_or, set}
 use lib.Seq.{get_or-set_same, get_or-set_other}
-use Rattle.terms.specs.Measures.{Shape, most_ranges, most_records, most_transactions}
+use Rattle.terms.specs.Measures.{most_ranges, most_records, most_transactions}
+use Rattle.terms.specs.declared.Shape.{Shape}
 use Rattle.history.specs.History.{History, Row, Record, State, unknown, active, nth, filterb, range_of, records_of}
 use Rattle.history.specs.Lists.{All, nil, cons}
 use Rattle.history.proofs.Lists.{by_cases, all_map, eqb_same}

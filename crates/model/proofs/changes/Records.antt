@@ -12,7 +12,7 @@ use lib.Dec.{eqb, eqb→eq}
 use lib.ListN.{length, get_or, set, length-append}
 use lib.Seq.{get_or-append_seam, get_or-append-add}
 use borrow.Author.Tests.{ne_eqb}
-use Rattle.terms.specs.Measures.{Shape}
+use Rattle.terms.specs.declared.Shape.{Shape}
 use Rattle.terms.specs.declared.Form.{Form}
 use Rattle.history.specs.History.{delete, History, Record, State, active, Content, ending, state_of, keeper_of, borne_by, row_at, bit, sets, range_of, records_of, scan_at, delete_records, with_tail, commit_of}
 use Rattle.history.specs.Lists.{All, nil}

@@ -11,7 +11,8 @@ use lib.Dec.{T, eqb}
 use lib.ListN.{length, get_or, set, length-append, length-set}
 use lib.Seq.{get_or-set_same, get_or-set_other}
 use borrow.Author.Tests.{ne_eqb, eq-eqb}
-use Rattle.terms.specs.Measures.{Shape, range_rows, most_numbers}
+use Rattle.terms.specs.Measures.{range_rows, most_numbers}
+use Rattle.terms.specs.declared.Shape.{Shape}
 use Rattle.terms.specs.declared.Form.{Form}
 use Rattle.history.specs.History.{Call, commit, abort, History, Row, Record, Commit, next_commit, State, unknown, active, aborted, committed, any, nth, change, state_of, row_at, range_of, records_of, scan_at, keeper_of, with_begun, with_transactions, commit_of}
 use Rattle.history.proofs.Lists.{by_cases, all_each, nth_beyond, clash, all_map, nth_changed, nth_other, length_change}

@@ -13,7 +13,8 @@ use borrow.Author.Tests.{eq-eqb}
 use mir.Syntax.{w32}
 use mir.Val.{to_z, of_z, SFits}
 use mir.ValLaws.{to_z-of_z, of_z_fits}
-use Rattle.terms.specs.Measures.{Shape, range_rows, most_columns}
+use Rattle.terms.specs.Measures.{range_rows, most_columns}
+use Rattle.terms.specs.declared.Shape.{Shape}
 use Rattle.terms.specs.declared.Form.{Form}
 use Rattle.history.specs.History.{update, History, Record, Version, active, original, setting, is_committed, up_to, state_of, keeper_of, row_at, inserted_value, inserted, bit, sets, range_of, records_of, bad_mask, new_columns, original_records, update_records, with_tail, cell_through, scan_at}
 use Rattle.history.specs.Lists.{All}

@@ -10,7 +10,7 @@ use lib.Dec.{leb, eqb, eqb-suc-zero}
 use borrow.Author.Tests.{le-leb, ne_eqb}
 use lib.ListN.{length, get_or}
 use lib.Seq.{take-length}
-use Rattle.terms.specs.Measures.{Shape}
+use Rattle.terms.specs.declared.Shape.{Shape}
 use Rattle.terms.specs.declared.Form.{Form}
 use Rattle.history.specs.History.{History, Record, Commit, Snapshot, snapshot_at, latest_snapshot, State, unknown, active, aborted, committed, Content, original, setting, ending, committed_by, state_of, row_at, ends, range_of, records_of, seen_at, seen_by, ended, visible, active_other, held, gone, commit_of}
 use Rattle.history.proofs.Lists.{clash}

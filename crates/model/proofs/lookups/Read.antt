@@ -14,9 +14,10 @@ use lib.IntN.{ℤ, pos}
 use borrow.Author.Tests.{le-leb, lt-leb}
 use mir.Syntax.{w32}
 use mir.Val.{to_z}
-use Rattle.terms.specs.Measures.{Shape}
+use Rattle.terms.specs.declared.Shape.{Shape}
 use Rattle.terms.specs.declared.Form.{Form}
-use Rattle.terms.specs.declared.Answer.{Answer}
+use Rattle.std.specs.Prelude.{Ok}
+use Rattle.terms.specs.declared.Fields.{Fields}
 use Rattle.history.specs.History.{History, Record, Version, State, unknown, active, aborted, committed, Content, original, setting, ending, any, is_committed, Commit, state_of, bit, sets, new_value, inserted_value, inserted, version_in, last_setting, range_of, row_at, records_of, visible, version_of, shown, read, keeper_of, borne_by, keeper_read, cell_through, commit_of}
 use Rattle.history.proofs.Lists.{by_test, parts, all_map₂, all_both, any_none, all_take, not_any}
 use Rattle.history.specs.Lists.{All}
@@ -26,7 +27,7 @@ use Rattle.history.proofs.Order.{sound_at}
 use Rattle.history.proofs.Ranges.{version_range, last_next, last_agree, last_unset}
 use Rattle.history.proofs.Links.{last_of_row}
 use Rattle.history.proofs.Endings.{original_reads, originals_of}
-use Rattle.loops.specs.declared.Found.{Found}
+use Rattle.std.specs.Prelude.{Option, Some, None}
 use Rattle.layout.specs.View.{View}
 use Rattle.terms.specs.declared.ScanEntry.{ScanEntry}
 use Rattle.model.specs.declared.Reader.{Reader}
@@ -49,13 +50,13 @@ record_answers C c (setting m vs) kind mask value b found new ins further o e f 
     rw (o.0, o.1) (by_test (λ a. cond a found further ≡ cond a new further) (bit m c && b) e (λ _. refl))
 record_answers C c ending kind mask value b found new ins further o e f = rw (o, and-false (bit mask c))
 
-found_or : {A : Type 0} (b : Bool) (i : ℕ) (w : Found) (at : ℕ → A) (rest : A) → or_else (cond b (Found.At i) w) at rest ≡ cond b (at i) (or_else w at rest)
+found_or : {A : Type 0} (b : Bool) (i : ℕ) (w : Option ℕ) (at : ℕ → A) (rest : A) → or_else (cond b (Some i) w) at rest ≡ cond b (at i) (or_else w at rest)
 found_or true i w at rest = refl
 found_or false i w at rest = refl
 
-or_map : {A B : Type 0} (g : A → B) (w : Found) (at : ℕ → A) (rest : A) → g (or_else w at rest) ≡ or_else w (λ i. g (at i)) (g rest)
-or_map g (Found.At i) at rest = refl
-or_map g Found.Nothing at rest = refl
+or_map : {A B : Type 0} (g : A → B) (w : Option ℕ) (at : ℕ → A) (rest : A) → g (or_else w at rest) ≡ or_else w (λ i. g (at i)) (g rest)
+or_map g (Some i) at rest = refl
+or_map g None at rest = refl
 
 last_le : (l : List Record) (r n : ℕ) → last_of l r n ≤ n
 last_le l r n = go (last_of l r n) refl
@@ -75,14 +76,14 @@ module _ (S : Shape) (v : View) (h : History) (i : InOrder h) (g r c : ℕ) (who
   abbrev seen_to : ℕ → Version
   seen_to n = last_setting f r c (inserted h r c) (take n (records_of h g))
 
-  abbrev step : ℕ → ℕ → ℕ → Found
+  abbrev step : ℕ → ℕ → ℕ → Option ℕ
   step low n k = walk S v who g c low n k
 
   -- record k of the range is the row's and passes
   abbrev OfRow : (Record → Bool) → ℕ → Type 0
   OfRow q k = (k < length recs) × ((get_or recs k no_record).row ≡ r) × T (q (get_or recs k no_record))
 
-  walk_stop : (low n k : ℕ) → k ≤ low → step low n k ≡ Found.Nothing
+  walk_stop : (low n k : ℕ) → k ≤ low → step low n k ≡ None
   unfolding walk
   walk_stop low zero k b = refl
   walk_stop low (suc n) k b = rw (le-leb k low b)
@@ -255,7 +256,7 @@ module _ {F : Form} {S : Shape} {v : View} {ps : List ScanEntry} {h : History} (
   found_is at of rest x y z = go (bit (row_in v r).mask c) ((o.rows r b).mask c) ∙ ap of (version_range h f r c)
     where
       go : (a : Bool) → a ≡ was_set list r c
-          → or_else (cond a (walk S v who g c floor (row_in v r).link (row_in v r).link) Found.Nothing) at rest ≡ of (last_setting f r c (inserted h r c) list)
+          → or_else (cond a (walk S v who g c floor (row_in v r).link (row_in v r).link) None) at rest ≡ of (last_setting f r c (inserted h r c) list)
       go true e = walked at of floor rest x y zero-le (λ _. z)
       go false e = z ∙ ap of (sym (last_unset f r c (inserted h r c) list (sym e)))
 
@@ -350,7 +351,7 @@ module _ {F : Form} {S : Shape} {v : View} {ps : List ScanEntry} {h : History} (
     word_is q = go (bit (row_in v r).mask c) ((o.rows r b).mask c) ∙ ap (λ (y : Version). y.value) (version_range h f r c)
       where
         go : (a : Bool) → a ≡ was_set list r c
-            → to_z w32 (or_else (cond a (walk S v who g c (down_to who page) (row_in v r).link (row_in v r).link) Found.Nothing) (λ i. value_in S v i c) cell)
+            → to_z w32 (or_else (cond a (walk S v who g c (down_to who page) (row_in v r).link (row_in v r).link) None) (λ i. value_in S v i c) cell)
             ≡ (last_setting f r c (inserted h r c) list).value
         go true e = walk_value (down_to who page) down_within (cell_answers q (sym e))
         go false e =
@@ -360,5 +361,5 @@ module _ {F : Form} {S : Shape} {v : View} {ps : List ScanEntry} {h : History} (
     pub read_is : (T (visible f h r) → Q r) → read_in S v who p r c ≡ read f h r c
     unfolding read_in lookup_in shown_in read shown
     read_is q = rw (visible_is o k r b who f w)
-        (by_test (λ a. cond a (Answer.Version (to_z w32 (word_in S v who p r c)) (setter_stamp v r (setter_in S v who r c))) Answer.None ≡ cond a (shown h (version_of f h r c)) Answer.None) (visible f h r)
-        (λ z. ap₂ Answer.Version (word_is (q z)) stamp_is) (λ _. refl))
+        (by_test (λ a. cond a (Ok (Fields.Version (to_z w32 (word_in S v who p r c)) (setter_stamp v r (setter_in S v who r c)))) (Ok Fields.None) ≡ cond a (shown h (version_of f h r c)) (Ok Fields.None)) (visible f h r)
+        (λ z. ap₂ (λ x y. Ok (Fields.Version x y)) (word_is (q z)) stamp_is) (λ _. refl))

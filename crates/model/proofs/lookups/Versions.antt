@@ -9,7 +9,7 @@ use lib.Dec.{T, eqb, eqb→eq}
 use lib.ListN.{length, get_or, take}
 use lib.Seq.{take-length, take-suc}
 use lib.IntN.{ℤ}
-use Rattle.terms.specs.Measures.{Shape}
+use Rattle.terms.specs.declared.Shape.{Shape}
 use Rattle.terms.specs.declared.Form.{Form}
 use Rattle.history.specs.History.{History, Record, Dated, dated, state_of, row_at, range_of, records_of, sets, inserted, inserted_value, version_in}
 use Rattle.history.specs.Records.{is_original, no_record}

@@ -8,7 +8,7 @@ use native.Mathlib.Decide.{ℕ_discrete}
 use lib.Dec.{T, not_T, leb, ltb, eqb, eqb→eq, leb→le, le→leb, ltb→lt, nltb→le}
 use lib.ListN.{get_or}
 use borrow.Author.Tests.{ne_eqb, lt-ltb, lt-leb}
-use Rattle.terms.specs.Measures.{Shape}
+use Rattle.terms.specs.declared.Shape.{Shape}
 use Rattle.history.proofs.Lists.{both_test, le_test, eq_test, by_cases, by_test, is_true, refuted, parts, eqb_equal}
 use Rattle.layout.specs.View.{View}
 use Rattle.layout.specs.declared.Region.TheVariants.{Current}

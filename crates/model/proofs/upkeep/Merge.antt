@@ -14,7 +14,8 @@ use lib.Seq.{get_or-set_same, get_or-set_other, take-suc}
 use borrow.Author.Tests.{ne_eqb, eq-eqb}
 use mir.Syntax.{w32}
 use mir.Val.{to_z}
-use Rattle.terms.specs.Measures.{Shape, range_rows}
+use Rattle.terms.specs.Measures.{range_rows}
+use Rattle.terms.specs.declared.Shape.{Shape}
 use Rattle.history.specs.History.{History, Record, Commit, State, unknown, active, aborted, committed, Content, original, setting, ending, is_committed, state_of, bit, sets, new_value, inserted, version_in, last_setting, range_of, records_of, commit_of}
 use Rattle.history.specs.Lists.{All, nil, cons}
 use Rattle.history.proofs.Lists.{by_cases, by_test, all_append, all_map, all_at}

@@ -13,7 +13,8 @@ use lib.Seq.{lt-length-set, get_or-set_same, get_or-set_other}
 use lib.IntN.{ℤ}
 use mir.Syntax.{w32}
 use mir.Val.{to_z}
-use Rattle.terms.specs.Measures.{Shape, range_rows, most_columns, most_ranges, most_records, most_pages}
+use Rattle.terms.specs.Measures.{range_rows, most_columns, most_ranges, most_records, most_pages}
+use Rattle.terms.specs.declared.Shape.{Shape}
 use Rattle.terms.specs.declared.Form.{Form}
 use Rattle.history.specs.History.{merge, History, Record, Merge, Scan, is_active, is_committed, state_of, keeper_of, row_at, range_of, records_of, merged_through, any_active, waiting_pages, scan_at, inserted, last_setting, with_merges, cell_through}
 use Rattle.history.proofs.Lists.{by_cases}

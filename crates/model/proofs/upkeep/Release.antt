@@ -8,7 +8,7 @@ use native.Mathlib.Omega.{arith}
 use native.Mathlib.Nat.{le_refl}
 use lib.Dec.{leb-suc-suc, T, leb, ltb, eqb, eqb→eq, le→leb, ltb→lt, T_not}
 use lib.ListN.{length}
-use Rattle.terms.specs.Measures.{Shape}
+use Rattle.terms.specs.declared.Shape.{Shape}
 use Rattle.terms.specs.declared.Form.{Form}
 use Rattle.history.specs.History.{release, History, Scan, Merge, any, nth, state_of, keeper_of, row_at, records_of, merged_through, no_scan, scan_at, needed_by, after_release, released_count, with_merges}
 use Rattle.history.proofs.Lists.{any_at, clash, refuted, parts, both}

@@ -6,7 +6,7 @@ use Prim.Native.Nat.{ℕ, ◌%◌, ◌≤◌, ◌<◌}
 use native.Mathlib.Omega.{arith}
 use lib.Dec.{T, leb, ltb, leb→le, nleb→lt, ltb→lt}
 use borrow.Author.Tests.{lt-ltb, lt-leb}
-use Rattle.terms.specs.Measures.{Shape}
+use Rattle.terms.specs.declared.Shape.{Shape}
 use Rattle.history.proofs.Lists.{by_test, refuted, both_test, eq_test, le_test}
 use Rattle.layout.specs.View.{View}
 use Rattle.layout.specs.Codes.{as_current}

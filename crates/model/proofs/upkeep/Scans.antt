@@ -10,7 +10,8 @@ use native.Mathlib.Decide.{ℕ_discrete}
 use lib.Dec.{T, eqb, lt→ltb}
 use lib.ListN.{length, set, length-append, length-set}
 use borrow.Author.Tests.{le-leb}
-use Rattle.terms.specs.Measures.{Shape, most_scans, most_numbers}
+use Rattle.terms.specs.Measures.{most_scans, most_numbers}
+use Rattle.terms.specs.declared.Shape.{Shape}
 use Rattle.terms.specs.declared.Form.{Form}
 use Rattle.history.specs.History.{open_scan, close, History, Scan, no_scan, snapshot_at, any, count, nth, change, state_of, keeper_of, row_at, records_of, scan_at, stopped, with_scans}
 use Rattle.history.proofs.Lists.{by_cases, all_map, length_change, nth_last, nth_before}

@@ -6,6 +6,6 @@ use Rattle.calls.proofs.laws.changed_reading.Goals as goal
 pub returns : goal.returns
 unfolding ServesBy
 returns g c = record {
-  runs = (_, _, _, refl, c.table-t.ensures, c.apply_change.ensures.0, c.apply_change.ensures.1, c.core-change.ensures);
-  promised = λ x h. rw (c.apply_change.ensures.1, c.apply_change.ensures.0) (h _ _ _ c.core-change.ensures c.args.scans.now c.table-t.ensures);
+  runs = (_, _, _, refl, c.table.ensures, c.apply_change.ensures.0, c.apply_change.ensures.1, c.core-change.ensures);
+  promised = λ x h. rw (c.apply_change.ensures.1, c.apply_change.ensures.0) (h _ _ _ c.core-change.ensures c.args.scans.now c.table.ensures);
 }

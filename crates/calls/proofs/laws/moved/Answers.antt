@@ -6,6 +6,6 @@ use Rattle.calls.proofs.laws.moved.Goals as goal
 pub returns : goal.returns
 unfolding MovesBy
 returns g c = record {
-  runs = (_, _, _, _, refl, refl, refl, c.table-t.ensures, c.core.ensures);
-  promised = λ x h. h _ _ _ _ _ c.core.ensures c.args.scans.now c.table-t.ensures;
+  runs = (_, _, _, _, refl, refl, refl, c.table.ensures, c.core.ensures);
+  promised = λ x h. h _ _ _ _ _ c.core.ensures c.args.scans.now c.table.ensures;
 }

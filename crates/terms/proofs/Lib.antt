@@ -1,2 +1,0 @@
--- What is shared by functions that take an answer apart.
-pub mod Answers

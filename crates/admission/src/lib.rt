@@ -26,7 +26,9 @@ use words::HIGHEST_WORD;
 pub fn admit(mem: &[u8], t: Scans) -> Result<(Sizes, usize), Refusal>
     ensures { Admits every_form result mem.now t }
 {
-    let s = check(mem, t).ok_or(Refusal::Memory)?;
+    let Some(s) = check(mem, t) else {
+        return Err(Refusal::Memory);
+    };
     Ok((s, words_needed(s) * 4))
 }
 

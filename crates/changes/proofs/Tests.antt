@@ -54,6 +54,10 @@ module _ (d : Result ℕ Refusal) (s : Sizes) (v : View) (t r n k : ℕ) (e : n 
   pub wanted_says : Says d (verdict (append_tests (shape_in s) v t r n)) → Says d (verdict (append_tests (shape_in s) v t r k))
   wanted_says h = rw e at h
 
+  -- and the range has room for as many
+  pub wanted_left : IfPassed d (Room s v r n) → IfPassed d (Room s v r k)
+  wanted_left h = rw e at h
+
 -- ---- a row that is given is there, and its range is one of the store's
 module _ (s : Sizes) (m : List ℕ) (r : ℕ) (w : Fitted s m) (h : r < rows_given (view_of s m)) where
   pub row_inside : r < s.rows

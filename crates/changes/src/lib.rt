@@ -40,7 +40,10 @@ fn begin_tests(mem: &[u8], s: Sizes) -> Result<usize, Refusal>
     if read(mem, s, Region::Header, HEADER_TRANSACTIONS) >= MOST_NUMBERS {
         return Err(Refusal::Number);
     }
-    free_index(mem, s).ok_or(Refusal::Busy)
+    let Some(free) = free_index(mem, s) else {
+        return Err(Refusal::Busy);
+    };
+    Ok(free)
 }
 
 // A transaction of no known keeper is opened; the answer is its number.
@@ -70,7 +73,9 @@ fn insert_tests(mem: &[u8], s: Sizes, t: Transaction) -> Result<usize, Refusal>
     ensures finds { Finds result (OpenAt (view_of s mem.now) t.0) }
     ensures if_passed { IfPassed result (rows_given (view_of s mem.now) < s.rows) }
 {
-    let at = open_index(mem, s, t).ok_or(Refusal::Transaction)?;
+    let Some(at) = open_index(mem, s, t) else {
+        return Err(Refusal::Transaction);
+    };
     if read(mem, s, Region::Header, HEADER_ROWS) as usize >= s.rows {
         return Err(Refusal::Full);
     }
@@ -128,8 +133,12 @@ fn update_tests(mem: &[u8], s: Sizes, t: Transaction, row: Row, mask: u32) -> Re
     ensures finds { Finds result (OpenAt (view_of s mem.now) t.0) }
     ensures if_passed { IfPassed result (Room s (view_of s mem.now) row.0 (records_wanted (view_of s mem.now) row.0 mask)) }
 {
-    let at = open_index(mem, s, t).ok_or(Refusal::Transaction)?;
-    let g = given_range(mem, s, row).ok_or(Refusal::Row)?;
+    let Some(at) = open_index(mem, s, t) else {
+        return Err(Refusal::Transaction);
+    };
+    let Some(g) = given_range(mem, s, row) else {
+        return Err(Refusal::Row);
+    };
     if bad_mask(s.columns, mask) {
         return Err(Refusal::Mask);
     }
@@ -160,8 +169,12 @@ fn delete_tests(mem: &[u8], s: Sizes, t: Transaction, row: Row) -> Result<usize,
     ensures finds { Finds result (OpenAt (view_of s mem.now) t.0) }
     ensures if_passed { IfPassed result (Room s (view_of s mem.now) row.0 1) }
 {
-    let at = open_index(mem, s, t).ok_or(Refusal::Transaction)?;
-    let g = given_range(mem, s, row).ok_or(Refusal::Row)?;
+    let Some(at) = open_index(mem, s, t) else {
+        return Err(Refusal::Transaction);
+    };
+    let Some(g) = given_range(mem, s, row) else {
+        return Err(Refusal::Row);
+    };
     append_tests(mem, s, at, t, row, g, 1)
 }
 
@@ -182,7 +195,9 @@ fn commit_tests(mem: &[u8], s: Sizes, t: Transaction, stamp: Stamp) -> Result<us
     ensures tests { Tests s mem.now (Call.commit t.0 stamp.0) result }
     ensures finds { Finds result (OpenAt (view_of s mem.now) t.0) }
 {
-    let at = open_index(mem, s, t).ok_or(Refusal::Transaction)?;
+    let Some(at) = open_index(mem, s, t) else {
+        return Err(Refusal::Transaction);
+    };
     if earlier(mem, s, stamp) {
         return Err(Refusal::Time);
     }
@@ -205,7 +220,10 @@ fn abort_tests(mem: &[u8], s: Sizes, t: Transaction) -> Result<usize, Refusal>
     ensures tests { Tests s mem.now (Call.abort t.0) result }
     ensures finds { Finds result (OpenAt (view_of s mem.now) t.0) }
 {
-    open_index(mem, s, t).ok_or(Refusal::Transaction)
+    let Some(at) = open_index(mem, s, t) else {
+        return Err(Refusal::Transaction);
+    };
+    Ok(at)
 }
 
 // What a transaction has changed is as if it had not been.

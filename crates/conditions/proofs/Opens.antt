@@ -10,10 +10,11 @@ use lib.ListN.{length}
 use lib.Seq.{take_all}
 use borrow.Author.Tests.{eqb-true, ne_eqb}
 use Rattle.terms.specs.Measures.{most_transactions}
-use Rattle.std.specs.Prelude.{Some, None}
+use Rattle.std.specs.Prelude.{Option, Some, None}
 use Rattle.words.specs.Words.{words}
 use Rattle.loops.specs.Search.{region, first_at}
 use Rattle.words.proofs.Words.{length_words}
+use Rattle.loops.proofs.Search.{first_at_lem}
 use Rattle.layout.specs.declared.Sizes.{Sizes}
 use Rattle.layout.specs.declared.Region.TheVariants.{Opens}
 use Rattle.layout.specs.View.{View, view, view_of, Suffices}
@@ -22,6 +23,7 @@ use Rattle.history.specs.History.{any}
 use Rattle.terms.specs.Entries.{bears, first_index}
 use Rattle.model.specs.Stored.{open_index}
 use Rattle.model.specs.Calls.{not_open_in}
+use Rattle.rows.specs.Finders.{Inside}
 use Rattle.rows.proofs.Cases.{found_at, found_nothing}
 use Rattle.conditions.specs.Opens.{open_at}
 
@@ -51,13 +53,23 @@ module _ (t : ℕ) (h : t ≡ 0 → ⊥) where
       go true ih = ap Some (sym (add-zero i))
       go false ih = let e : i + suc (first_index (bears t) l) ≡ i + 1 + first_index (bears t) l = omega arith in rw e ih
 
-  pub open_found : (s : Sizes) (m : List ℕ) → Suffices s m → first_at t 0 (region (view_of s m Opens) 0 most_transactions) ≡ open_at (view_of s m) t
+  -- the search answers the index of transaction t, which is that of an entry
+  pub open_found : (s : Sizes) (m : List ℕ) (r : Option ℕ) → Suffices s m
+      → r ≡ first_at t 0 (region (view_of s m Opens) 0 most_transactions)
+      → (r ≡ open_at (view_of s m) t) × Inside r most_transactions
   unfolding open_at not_open_in open_index
-  open_found s m l =
+  open_found s m r l e =
       let opens = view_of s m Opens in
       let long : length opens ≡ most_transactions = view_long s (words m) (omega (arith, length_words m)) Opens in
       let whole : region opens 0 most_transactions ≡ opens = take_all most_transactions opens (omega arith) in
-      rw whole (first_bears 0 opens ∙ rw (zero-add (first_index (bears t) opens)))
+      let e' : r ≡ first_at t 0 opens = rw whole at e in
+      (e' ∙ first_bears 0 opens ∙ rw (zero-add (first_index (bears t) opens)), inside r e')
+    where
+      inside : (f : Option ℕ) → f ≡ first_at t 0 (view_of s m Opens) → Inside f most_transactions
+      inside (Some j) q =
+          let long : length (view_of s m Opens) ≡ most_transactions = view_long s (words m) (omega (arith, length_words m)) Opens in
+          omega (arith, (first_at_lem t j (view_of s m Opens) (sym q)).0)
+      inside None q = tt
 
 -- ---- what the finder tells
 module _ (v : View) (t : ℕ) where

@@ -1,2 +1,3 @@
 -- The pass meets its contracts.
+pub mod Records
 pub mod Standing

@@ -1,9 +1,10 @@
 -- What a read, a round and a write do with the program's course, how a run ends, and the claim over the bytes that it received. proofs/Ran.antt proves it.
-use Rattle.std.specs.Prelude.{ℕ, ◌+◌, ◌^◌, ◌≤◌, ◌<◌, ◌≡◌, Bool, true, false, not, ◌&&◌, List, [], ◌++◌, eqb, ltb, length, take}
+use Rattle.std.specs.Prelude.{ℕ, ◌+◌, ◌-◌, ◌/◌, ◌^◌, ◌≤◌, ◌<◌, ◌≡◌, Bool, true, false, not, ◌&&◌, List, [], ◌++◌, eqb, ltb, length, take}
 use Rattle.terms.specs.Measures.{most_scans}
 use Rattle.words.specs.Words.{Bytes}
 use Rattle.terms.specs.declared.Form.{Form}
 use Rattle.layout.specs.Sizes.{bytes_needed}
+use Rattle.decimal.specs.Written.{line_bytes}
 use Rattle.output.specs.Output.{output}
 use Rattle.promise.specs.Promise.{Lent}
 use Rattle.turns.specs.Gatebook.{largest}
@@ -11,6 +12,13 @@ use Rattle.commands.specs.Commands.{command_bytes}
 use Rattle.rounds.specs.Due.{Flow, Moved, Round}
 use Rattle.rounds.specs.Rounds.{opening}
 use Rattle.gatebook.specs.declared.course.Course.{Course}
+
+-- The buffers: as many bytes of input as have their lines in the buffer of lines.
+abbrev pub lines_bytes : ℕ
+lines_bytes = 65536
+
+abbrev pub input_bytes : ℕ
+input_bytes = lines_bytes / line_bytes - 1
 
 -- 2^63, to which no run comes
 abbrev pub most_bytes : ℕ

@@ -20,7 +20,19 @@ pub fn read_behind<R: Read>(reader: &mut R, buffer: &mut [u8], to: usize) -> usi
     reader.read(&mut buffer[to..]).unwrap_or(0)
 }
 
-// Lines are written. It answers whether all of them were. Where there is nothing to write, the writer is not called.
-pub fn write_lines<W: Write>(writer: &mut W, lines: &[u8]) -> bool {
-    writer.write_all(lines).is_ok()
+// What was handed to the writer, and whether all of it was written. A caller counts these bytes, so that no other number of them can be handed on.
+#[derive(Clone, Copy)]
+pub struct Written {
+    pub bytes: usize,
+    pub done: bool,
+}
+
+// Lines are written. Where there is nothing to write, the writer is not called.
+pub fn write_lines<W: Write>(writer: &mut W, lines: &[u8]) -> Written
+    ensures { result.bytes ≡ length lines.now }
+{
+    Written {
+        bytes: lines.len(),
+        done: writer.write_all(lines).is_ok(),
+    }
 }

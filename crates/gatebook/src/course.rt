@@ -100,12 +100,11 @@ pub fn send<W: Write>(writer: &mut W, lines: &[u8], c: Course) -> Course
     requires { (c.written ≤ length lines.now) × (c.sent < most_bytes) × (length lines.now ≤ most_bytes) }
     ensures { Sent c result }
 {
-    let waiting = &lines[..c.written];
-    let done = write_lines(writer, waiting);
+    let w = write_lines(writer, &lines[..c.written]);
     Course {
-        written: c.written - waiting.len(),
-        failed: !done,
-        sent: c.sent + waiting.len(),
+        written: c.written - w.bytes,
+        failed: !w.done,
+        sent: c.sent + w.bytes,
         ..c
     }
 }

@@ -5,11 +5,11 @@
 mod buffers;
 mod course;
 
-ghost use Rattle.std.specs.Prelude.{◌≤◌, length};
+ghost use Rattle.std.specs.Prelude.{◌≡◌, ◌≤◌, length};
 ghost use Rattle.turns.specs.Turns.{store_in};
 ghost use Rattle.commands.specs.Commands.{command_bytes};
 ghost use Rattle.rounds.specs.Due.{room_for};
-ghost use Rattle.gatebook.specs.Course.{most_bytes, Ended};
+ghost use Rattle.gatebook.specs.Course.{lines_bytes, input_bytes, most_bytes, Ended};
 
 use course::{Course, goes_on, opening, receive, round, send};
 use decimal::LINE_BYTES;
@@ -42,13 +42,25 @@ const LINES_BYTES: usize = 65536;
 
 const INPUT_BYTES: usize = LINES_BYTES / LINE_BYTES - 1;
 
+fn input_buffer() -> [u8; INPUT_BYTES]
+    ensures { input_bytes ≡ length result }
+{
+    [0; INPUT_BYTES]
+}
+
+fn line_buffer() -> [u8; LINES_BYTES]
+    ensures { lines_bytes ≡ length result }
+{
+    [0; LINES_BYTES]
+}
+
 fn main(rt: HostRuntime) {
     let mut reader = rt.stdin();
     let mut writer = rt.stdout();
     let mut mem = lent_memory();
     let mut scans = lent_list();
-    let mut input = [0; INPUT_BYTES];
-    let mut lines = [0; LINES_BYTES];
+    let mut input = input_buffer();
+    let mut lines = line_buffer();
     run(
         &mut reader,
         &mut writer,

@@ -1,9 +1,10 @@
 -- Where the words of a row, a record and a page lie: every index of the code is below its region's length, and no sum wraps.
 use Prim.Native.Nat.{ℕ, ◌+◌, ◌*◌, ◌/◌, ◌≤◌, ◌<◌}
 use native.Mathlib.Omega.{arith}
-use native.Mathlib.Nat.{mul-le-mul, mul-le-mul_right, suc-mul, mul_comm}
+use native.Mathlib.Nat.{mul-le-mul, mul-le-mul_right, suc-mul, mul_comm, div-lt_iff_lt-mul}
 use Rattle.terms.specs.Measures.{range_rows, most_slots, most_chunks}
 use Rattle.layout.specs.declared.Sizes.{Sizes}
+use Rattle.layout.specs.Regions.{need}
 use Rattle.layout.specs.Sizes.{Proper}
 
 -- block p, of blocks of one size, ends within them
@@ -35,3 +36,14 @@ module _ (s : Sizes) (p : Proper s) where
 
   pub chunks_few : s.chunks ≤ most_chunks
   chunks_few = omega (arith, p.chunks_are, mul-le-mul p.columns_to p.ranges_to)
+
+  -- the range of a chunk
+  pub chunk_range : (i : ℕ) → i < s.chunks → i / s.columns < s.ranges
+  chunk_range i b =
+      let c : i < s.ranges * s.columns = omega (arith, p.chunks_are, mul_comm s.columns s.ranges) in
+      (div-lt_iff_lt-mul {k = s.columns} {x = i} {y = s.ranges} p.columns_from).1 c
+
+-- the regions whose lengths are not fixed are among the words needed
+pub sizes_need : (s : Sizes) → s.rows + s.slots + s.values + s.ranges + s.chunks + s.pages * range_rows ≤ need s
+unfolding need
+sizes_need s = omega arith

@@ -37,6 +37,10 @@ pub stretches_apart : (s : Sizes) (k l : Region) (at n : ℕ) → at + n ≤ len
     → (base s k + at + n ≤ base s l + at) ⊎ (base s l + at + n ≤ base s k + at)
 stretches_apart s k l at n h g d = ⊎_map (λ a. omega arith) (λ a. omega arith) (base_sides s k l d)
 
+-- a stretch of a region ends within the words needed
+pub stretch_in : (s : Sizes) (k : Region) (at n : ℕ) → at + n ≤ len s k → base s k + at + n ≤ need s
+stretch_in s k at n h = omega (arith, base_in s k)
+
 -- ---- what is read
 
 pub view_at : (s : Sizes) (ws : List ℕ) (k : Region) (i : ℕ) → i < len s k → get_or (view s ws k) i 0 ≡ get_or ws (base s k + i) 0

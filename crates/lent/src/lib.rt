@@ -19,7 +19,7 @@ pub fn table(list: &[ScanEntry]) -> Scans
     table_from(list.len(), |i| list[i])
 }
 
-// The entry that an accepted call names becomes what it says: a scan is added or dropped. An entry past the end is not there, and nothing is stored. Gives the call's answer.
+// The entry that a change names becomes what it says: a scan is added or dropped. An entry past the end is not there, and nothing is stored. Gives the call's answer.
 pub fn apply_change(list: &mut [ScanEntry], change: Result<ListChange, Refusal>) -> Answer
     ensures { (result ≡ answer_in change) × (list.new ≡ changed_at change list.old) }
 {
@@ -27,7 +27,7 @@ pub fn apply_change(list: &mut [ScanEntry], change: Result<ListChange, Refusal>)
     if change.index < list.len() {
         list[change.index] = change.entry;
     }
-    Ok(change.fields)
+    change.answer
 }
 
 // Every entry becomes free, however many there are.

@@ -39,7 +39,9 @@ fn row_tests(mem: &[u8], s: Sizes, row: Row, column: u32) -> Result<usize, Refus
     ensures says { Says result (verdict (row_tests (shape_in s) (view_of s mem.now) row.0 column)) }
     ensures if_passed { IfPassed result (CellThere s (view_of s mem.now) row.0 column) }
 {
-    let g = given_range(mem, s, row).ok_or(Refusal::Row)?;
+    let Some(g) = given_range(mem, s, row) else {
+        return Err(Refusal::Row);
+    };
     if no_column(s, column) {
         return Err(Refusal::Column);
     }
@@ -107,7 +109,9 @@ fn own_read_tests(
     ensures finds { Finds result (OpenAt (view_of s mem.now) transaction.0) }
     ensures if_passed { IfPassed result (CellThere s (view_of s mem.now) row.0 column) }
 {
-    let at = open_index(mem, s, transaction).ok_or(Refusal::Transaction)?;
+    let Some(at) = open_index(mem, s, transaction) else {
+        return Err(Refusal::Transaction);
+    };
     row_tests(mem, s, row, column)?;
     Ok(at)
 }
@@ -154,7 +158,9 @@ fn scan_read_tests(
     ensures finds { Finds result (ScanAt t scan) }
     ensures if_passed { IfPassed result (CellThere s (view_of s mem.now) row.0 column) }
 {
-    let j = find_scan(t, scan).ok_or(Refusal::Scan)?;
+    let Some(j) = find_scan(t, scan) else {
+        return Err(Refusal::Scan);
+    };
     row_tests(mem, s, row, column)?;
     Ok(j)
 }
@@ -176,7 +182,9 @@ fn sum_tests(s: Sizes, t: Scans, scan: u32, column: u32) -> Result<usize, Refusa
     ensures finds { Finds result (ScanAt t scan) }
     ensures if_passed { IfPassed result (column < s.columns) }
 {
-    let j = find_scan(t, scan).ok_or(Refusal::Scan)?;
+    let Some(j) = find_scan(t, scan) else {
+        return Err(Refusal::Scan);
+    };
     if no_column(s, column) {
         return Err(Refusal::Column);
     }
@@ -204,7 +212,10 @@ fn page_cell_tests(mem: &[u8], s: Sizes, column: u32, row: Row) -> Result<usize,
     if no_column(s, column) {
         return Err(Refusal::Column);
     }
-    given_range(mem, s, row).ok_or(Refusal::Row)
+    let Some(g) = given_range(mem, s, row) else {
+        return Err(Refusal::Row);
+    };
+    Ok(g)
 }
 
 // What the current page of a column holds for a row.
@@ -261,7 +272,9 @@ fn crossings_tests(
     ensures says { Says result (verdict (span_tests (shape_in s) (view_of s mem.now) row.0 column from.0 to.0)) }
     ensures if_passed { IfPassed result (CellThere s (view_of s mem.now) row.0 column) }
 {
-    let g = given_range(mem, s, row).ok_or(Refusal::Row)?;
+    let Some(g) = given_range(mem, s, row) else {
+        return Err(Refusal::Row);
+    };
     if no_column(s, column) {
         return Err(Refusal::Column);
     }

@@ -18,7 +18,7 @@ module _ (v : View) (who : Reader) (c at mask : ℕ) (x : Bool) (e : mask ≡ ge
   answers_not h = rw (← e, ← b, h)
 
   module _ (kind : ℕ) (h : x ≡ true) (k : kind ≡ get_or (v TailKind) at 0) where
-    pub answers_original : kind ≡ 0 → eqb kind 0 ≡ answers_for who c (record_in v at)
+    pub answers_original : kind ≡ 0 → true ≡ answers_for who c (record_in v at)
     unfolding answers_for record_in
     answers_original z = rw (← e, ← b, h, ← k, z)
 

@@ -1,5 +1,5 @@
 -- Who set a row and column, and the stamp that is shown of it: one lemma for each way through the code.
-use Prim.Native.Nat.{ℕ}
+use Prim.Native.Nat.{ℕ, ◌<◌}
 use mathlib.Core.Path.{◌≡◌, ap₂, ◌∙◌}
 use lib.ListN.{get_or}
 use borrow.Author.Tests.{ne_eqb}
@@ -7,6 +7,7 @@ use Rattle.layout.specs.declared.Region.TheVariants.{TailKind, TailState, TailSt
 use Rattle.layout.specs.View.{View}
 use Rattle.model.specs.declared.Setter.{Setter}
 use Rattle.model.specs.Stored.{row_in, record_in}
+use Rattle.reading.specs.Setters.{RecordInside}
 use Rattle.model.specs.Reading.{setter_at, commit_stamp, setter_stamp}
 
 module _ (v : View) (at kind : ℕ) (d : kind ≡ get_or (v TailKind) at 0) where
@@ -19,6 +20,9 @@ module _ (v : View) (at kind : ℕ) (d : kind ≡ get_or (v TailKind) at 0) wher
   setter_update n = rw (← d, ne_eqb kind 0 n)
 
 -- ---- its stamp
+-- the record of a setter that is an update lies below the bound
+pub record_inside : (x : Setter) (j n : ℕ) → x ≡ Setter.Update j → RecordInside x n → j < n
+record_inside x j n e h = rw e at h
 
 module _ (state stamp : ℕ) where
   pub stamp_committed : state ≡ 1 → stamp ≡ commit_stamp state stamp

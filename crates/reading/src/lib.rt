@@ -57,7 +57,10 @@ pub fn answers_for(mem: &[u8], s: Sizes, who: Reader, at: usize, c: u32) -> bool
         return false;
     }
     let kind = read(mem, s, Region::TailKind, at);
-    kind == ORIGINAL || (kind == SETTING && sees_record(mem, s, who, at))
+    if kind == ORIGINAL {
+        return true;
+    }
+    kind == SETTING && sees_record(mem, s, who, at)
 }
 
 // From record `from` of range g back along the links, while the record's number is above `low`, to the first that answers for column c.

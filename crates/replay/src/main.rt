@@ -3,7 +3,8 @@
 #![tactic(auto)]
 
 ghost use Rattle.std.specs.Prelude.{◌≡◌, ◌+◌, ◌<◌, ◌≤◌, length, take};
-ghost use Rattle.replay.specs.Pack.{head_bytes};
+ghost use Rattle.turns.specs.Gatebook.{memory_bytes, list_bytes};
+ghost use Rattle.replay.specs.Pack.{pack_bytes, head_bytes};
 
 use decimal::LINE_BYTES;
 use std::io::{Read, Write};
@@ -294,6 +295,25 @@ fn run_all<W: Write>(writer: &mut W, mem: &mut [u8], scans: &mut [u8], pack: &mu
     }
 }
 
+// What is lent, of which only the length matters.
+fn lent_memory() -> [u8; MEMORY_BYTES]
+    ensures { memory_bytes ≡ length result }
+{
+    [DIRT; MEMORY_BYTES]
+}
+
+fn lent_list() -> [u8; LIST_BYTES]
+    ensures { list_bytes ≡ length result }
+{
+    [DIRT; LIST_BYTES]
+}
+
+fn pack_buffer() -> [u8; PACK]
+    ensures { pack_bytes ≡ length result }
+{
+    [0; PACK]
+}
+
 // Reads until the buffer is full, the input ends or a read fails. It answers how many bytes came.
 fn read_full<R: Read>(reader: &mut R, buffer: &mut [u8]) -> usize
     ensures { (result ≤ length buffer.new) × (result ≡ length (take result buffer.new)) }
@@ -312,9 +332,9 @@ fn read_full<R: Read>(reader: &mut R, buffer: &mut [u8]) -> usize
 fn main(rt: HostRuntime) {
     let mut reader = rt.stdin();
     let mut writer = rt.stdout();
-    let mut mem = [DIRT; MEMORY_BYTES];
-    let mut scans = [DIRT; LIST_BYTES];
-    let mut pack = [0; PACK];
+    let mut mem = lent_memory();
+    let mut scans = lent_list();
+    let mut pack = pack_buffer();
     let n = read_full(&mut reader, &mut pack);
     run_all(&mut writer, &mut mem, &mut scans, &mut pack[..n]);
 }

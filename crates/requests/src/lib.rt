@@ -43,7 +43,7 @@ fn open_listed(mem: &mut [u8], scans: &mut [u8], t: Scans, a: u32) -> Answer
 {
     let listed = open_scan(mem, t, Stamp(a))?;
     put_entry(scans, listed.index, listed.entry);
-    Ok(listed.fields)
+    listed.answer
 }
 
 fn close_listed(mem: &[u8], scans: &mut [u8], t: Scans, a: u32) -> Answer
@@ -51,7 +51,7 @@ fn close_listed(mem: &[u8], scans: &mut [u8], t: Scans, a: u32) -> Answer
 {
     let listed = close_scan(mem, t, a)?;
     put_entry(scans, listed.index, listed.entry);
-    Ok(listed.fields)
+    listed.answer
 }
 
 // The mask that an operand stands for. One of more bits is refused as the mask 0 is, at the same test.

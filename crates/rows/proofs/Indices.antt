@@ -2,14 +2,15 @@
 use Prim.Native.Nat.{ℕ, ◌+◌, ◌*◌, ◌-◌, ◌≤◌, ◌<◌}
 use mathlib.Core.Path.{◌≡◌}
 use native.Mathlib.Omega.{arith}
+use native.Mathlib.Nat.{mul-le-mul}
 use lib.ListN.{get_or}
-use Rattle.terms.specs.Measures.{most_pages}
+use Rattle.terms.specs.Measures.{most_columns, most_slots, most_pages}
 use Rattle.layout.specs.declared.Sizes.{Sizes}
 use Rattle.layout.specs.declared.Region.TheVariants.{RowLink}
 use Rattle.layout.specs.View.{View, rows_given, used_in}
 use Rattle.history.specs.History.{range_of}
 use Rattle.layout.specs.Sizes.{Proper}
-use Rattle.layout.proofs.Indices.{tail_in, values_in_lem, chunks_in, chunks_few}
+use Rattle.layout.proofs.Indices.{tail_in, values_in_lem, chunks_in, slots_few, chunks_few}
 use Rattle.model.specs.Preconditions.{Linked}
 
 module _ (s : Sizes) (proper : Proper s) where
@@ -22,6 +23,10 @@ module _ (s : Sizes) (proper : Proper s) where
 
   pub pages_few : s.pages ≤ most_pages
   pages_few = omega (arith, proper.pages_are, proper.spares_to, chunks_few s proper)
+
+  -- the values of all records are at most so many
+  pub values_few : s.values ≤ most_slots * most_columns
+  values_few = omega (arith, proper.values_are, mul-le-mul (slots_few s proper) proper.columns_to)
 
   pub value_in_lem : (at c : ℕ) → at < s.slots → c < s.columns → at * s.columns + c < s.values
   value_in_lem at c h l = omega (arith, values_in_lem s proper at h)

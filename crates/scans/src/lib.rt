@@ -1,6 +1,6 @@
 // The lent list of open scans as a table: how long it is, its open scans with their indices in it, and its first free entry. At most MOST_SCANS are open
 // in a usable store, so a table of so many holds all that a call asks of a list of any length. Definitions and laws speak of the list of entries. A table is made
-// entry by entry, by `table_from`, for a list lent as records (crates/lent) and for one in bytes (crates/requests/src/packed.rt).
+// entry by entry, by `add_open`, for a list lent as records (crates/lent) and for one in bytes (crates/requests/src/packed.rt).
 #![tactic(auto)]
 
 ghost use Rattle.std.specs.Prelude.{◌≡◌, ◌||◌, not, cond, true, ℕ, List, [], ◌+◌, ◌<◌, ◌≤◌, eqb, length, get_or, take, drop};

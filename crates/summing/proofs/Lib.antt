@@ -1,2 +1,3 @@
 -- Lemmas of a scan's sum.
+pub mod Signed
 pub mod Sums

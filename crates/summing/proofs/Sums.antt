@@ -3,12 +3,17 @@ use Rattle.std.proofs.Common.{ℕ, zero, suc, ◌+◌, ◌*◌, ◌≤◌, ◌<�
 use Rattle.std.proofs.lemmas.Int.{ints, to_z-of_z}
 use mir.Syntax.{w32, w64}
 use mir.Val.{SFits, of_z, to_z}
+use Rattle.terms.specs.Measures.{most_rows}
 use Rattle.terms.specs.declared.Shape.{Shape}
 use Rattle.std.specs.Prelude.{Ok}
 use Rattle.terms.specs.declared.Fields.{Fields}
 use Rattle.layout.specs.View.{View, rows_given}
 use Rattle.history.specs.History.{range_of}
 use Rattle.terms.specs.declared.ScanEntry.{ScanEntry}
+use Rattle.layout.specs.declared.Sizes.{Sizes}
+use Rattle.layout.specs.Sizes.{Proper}
+use Rattle.model.specs.Preconditions.{Linked}
+use Rattle.rows.proofs.Indices.{range_in}
 use Rattle.model.specs.declared.Reader.{Reader}
 use Rattle.model.specs.Reading as R
 use Rattle.model.specs.Reading.{reader, snapshot_of, word_in, visible_in, scan_page, tally, sum_in}
@@ -19,6 +24,20 @@ use Rattle.summing.specs.Sums.{Tallied}
 pub range_is : (g r : ℕ) → g * 64 ≤ r → r < (g + 1) * 64 → range_of r ≡ g
 unfolding range_of
 range_is g r a b = omega arith
+
+-- ---- the rows given, of which there are n
+module _ (s : Sizes) (proper : Proper s) (v : View) (linked : Linked s v) (n : ℕ) (e : n ≡ rows_given v) where
+  -- they are at most all the rows that there are
+  pub given_few : n ≤ most_rows
+  given_few = omega (arith, proper.rows_are, proper.ranges_to, linked.rows_few)
+
+  -- so is the number of one of them
+  pub row_few : (r : ℕ) → r < n → r ≤ most_rows
+  row_few r l = omega (arith, given_few)
+
+  -- and its range is one of the store's
+  pub given_range : (r g : ℕ) → r < n → g ≡ range_of r → g < s.ranges
+  given_range r g l i = rw i (range_in s proper r (omega (arith, linked.rows_few)))
 
 module _ (S : Shape) (v : View) (scan : ScanEntry) (c : ℕ) where
   abbrev value : ℕ → ℤ

@@ -13,7 +13,7 @@ use Rattle.upkeep.specs.declared.ListChange.{ListChange}
 
 -- what a call on the list answers
 abbrev pub answer_in : Result ListChange Refusal → Answer
-answer_in (Ok d) = Ok d.fields
+answer_in (Ok d) = d.answer
 answer_in (Err x) = Err x
 
 -- a list with the one entry changed that an accepted call names; a refused one changes none

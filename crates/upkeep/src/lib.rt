@@ -31,10 +31,10 @@ use scans::{Scans, find_scan};
 use terms::limits::{MOST_NUMBERS, MOST_SCANS};
 use terms::{Answer, Fields, Refusal, ScanEntry, Stamp, Tail};
 
-// What an accepted call on the scan list leaves: the fields that it answers, and the index in the list of what becomes `entry`.
+// What a call on the scan list leaves: its answer, and the index in the list of what becomes `entry`.
 #[derive(Clone, Copy)]
 pub struct ListChange {
-    pub fields: Fields,
+    pub answer: Answer,
     pub index: usize,
     pub entry: ScanEntry,
 }
@@ -76,7 +76,10 @@ fn reach_tests(
     if any_open(mem, s, g, through) {
         return Err(Refusal::Open);
     }
-    free_page(mem, s).ok_or(Refusal::NoPage)
+    let Some(page) = free_page(mem, s) else {
+        return Err(Refusal::NoPage);
+    };
+    Ok(page)
 }
 
 // The tests of merge; where they are passed, a free page.
@@ -186,9 +189,9 @@ pub fn open_scan(mem: &mut [u8], scans: Scans, stamp: Stamp) -> Result<ListChang
     let (s, n) = admit(mem, scans)?;
     let index = open_tests(mem, s, scans, stamp)?;
     let entry = new_entry(mem, s, stamp);
-    let fields = Fields::Number(give_scan(&mut mem[..n], s));
+    let answer = Ok(Fields::Number(give_scan(&mut mem[..n], s)));
     Ok(ListChange {
-        fields,
+        answer,
         index,
         entry,
     })
@@ -199,7 +202,10 @@ fn close_tests(scans: Scans, scan: u32) -> Result<usize, Refusal>
     ensures tests_by { (s : Sizes) (m : List ℕ) → TestsBy scans s m (Call.close scan) result }
     ensures finds { Finds result (ScanAt scans scan) }
 {
-    find_scan(scans, scan).ok_or(Refusal::Scan)
+    let Some(i) = find_scan(scans, scan) else {
+        return Err(Refusal::Scan);
+    };
+    Ok(i)
 }
 
 // A scan is closed: its entry is free again.
@@ -209,7 +215,7 @@ pub fn close_scan(mem: &[u8], scans: Scans, scan: u32) -> Result<ListChange, Ref
     admit(mem, scans)?;
     let i = close_tests(scans, scan)?;
     Ok(ListChange {
-        fields: Fields::Done,
+        answer: Ok(Fields::Done),
         index: scans.indices[i],
         entry: free_entry(),
     })

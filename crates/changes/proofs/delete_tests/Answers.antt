@@ -7,4 +7,4 @@ use Rattle.changes.proofs.delete_tests.Goals as goal
 
 pub returns-clause-tests : goal.returns-clause-tests
 unfolding Tests tests_in
-returns-clause-tests c = λ ps. search (deciding, c.append_tests.ensures.says, c.in_ok-at.ensures.ok_part, c.in_ok-g.ensures.ok_part)
+returns-clause-tests c = λ ps. search (deciding, c.append_tests.ensures.says, c.in-Some.is, c.in-Some-given_range.is)

@@ -9,8 +9,8 @@ use Rattle.changes.proofs.update_tests.Goals as goal
 
 pub returns-then-bad_mask-clause-tests : goal.returns-then-bad_mask-clause-tests
 unfolding Tests tests_in bad_mask
-returns-then-bad_mask-clause-tests c = λ vs ps. search (deciding, c.open_index.ensures.value, c.given_range.ensures, c.in_ok-at.ensures.ok_part, c.in_ok-g.ensures.ok_part)
+returns-then-bad_mask-clause-tests c = λ vs ps. search (deciding, c.open_index.ensures.value, c.given_range.ensures, c.in-Some.is, c.in-Some-given_range.is)
 
 pub returns-clause-tests : goal.returns-clause-tests
 unfolding Tests tests_in bad_mask
-returns-clause-tests c = λ vs ps. search (deciding, wanted_says, c.records_wanted.ensures, c.append_tests.ensures.says, c.in_ok-at.ensures.ok_part, c.in_ok-g.ensures.ok_part)
+returns-clause-tests c = λ vs ps. search (deciding, wanted_says, c.records_wanted.ensures, c.append_tests.ensures.says, c.in-Some.is, c.in-Some-given_range.is)

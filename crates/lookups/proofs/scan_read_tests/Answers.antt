@@ -7,4 +7,4 @@ use Rattle.lookups.proofs.scan_read_tests.Goals as goal
 
 pub returns-in_err-row_tests-clause-tests_by : goal.returns-in_err-row_tests-clause-tests_by
 unfolding TestsBy tests_in
-returns-in_err-row_tests-clause-tests_by c = let p = err_from_is_err_and c.from_residual-in_err-row_tests.result c.from_residual-in_err-row_tests.ensures.1 in rw (p.1, p.2) (λ ps q few. search (deciding, c.in_err-row_tests.ensures.says, c.in_ok-j.ensures.ok_part))
+returns-in_err-row_tests-clause-tests_by c = let p = err_from_is_err_and c.from_residual.result c.from_residual.ensures.1 in rw (p.1, p.2) (λ ps q few. search (deciding, c.in_err-row_tests.ensures.says, c.in-Some.is))

@@ -1,0 +1,2 @@
+-- What it takes to free the list entry by entry.
+pub mod Freed

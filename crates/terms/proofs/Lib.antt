@@ -1,0 +1,2 @@
+-- What is shared by functions that take an answer apart.
+pub mod Answers

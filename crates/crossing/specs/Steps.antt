@@ -1,5 +1,6 @@
 -- The steps of the pass that lists crossings, and how it stands after the values of some records.
-use Rattle.std.specs.Prelude.{ℕ, ◌^◌, ◌≡◌, Bool, true, false, cond, ◌&&◌, List, [], ◌∷◌, ◌++◌, map, leb, ltb, eqb, length, take, ℤ}
+use Rattle.std.specs.Prelude.{ℕ, ◌^◌, ◌≡◌, Bool, false, cond, ◌&&◌, List, [], ◌∷◌, ◌++◌, leb, ltb, eqb, length, take, ℤ, Option, Some, None}
+use Rattle.std.specs.Option.{option_map_or, option_to_list}
 use Rattle.std.proofs.lemmas.List.Edits.{sets}
 use Rattle.terms.specs.declared.Shape.{Shape}
 use Rattle.layout.specs.View.{View, used_in}
@@ -19,33 +20,36 @@ use Rattle.crossing.specs.declared.Pass.{Pass}
 abbrev pub most_found : ℕ
 most_found = 2 ^ 32
 
-abbrev pub no_pass : Pass
-no_pass = record { met = false; setter = 0; stamp = 0; above = false; follows = false; before = false; found = 0 }
-
 -- what the code holds of a value
 abbrev pub told : ℤ → Dated → Told
 told mark v = record { setter = v.setter; stamp = v.stamp; above = above mark v }
 
 -- ---- one value more
 abbrev pub same_setter : Pass → Told → Bool
-same_setter p x = p.met && eqb p.setter x.setter
+same_setter p x = option_map_or (λ y. eqb y.setter x.setter) p.last false
 
--- the last value is a crossing that is asked for
-abbrev pub counted : ℕ → Pass → Bool
-counted from p = p.follows && (differ p.before p.above && leb from p.stamp)
+-- after a value of side b, or none, this one is a crossing that is asked for
+abbrev pub counted : ℕ → Option Bool → Told → Bool
+counted from b x = option_map_or (λ y. differ y x.above) b false && leb from x.stamp
 
+-- the crossings of a list that follows a value of side b, or none
+abbrev pub behind : ℕ → Option Bool → List Told → List ℕ
+behind from b [] = []
+behind from b (x ∷ l) =
+    let further = behind from (Some x.above) l in
+    cond (counted from b x) (x.stamp ∷ further) further
+
+-- the last value, if one was met
+abbrev pub standing : Pass → List Told
+standing p = option_to_list p.last
+
+-- its stamp, if it is a crossing
 abbrev pub noted : ℕ → Pass → List ℕ
-noted from p = cond (counted from p) (p.stamp ∷ []) []
+noted from p = behind from p.before (standing p)
 
 -- stamps written from place n on, while that is below the limit
 abbrev pub placed : ℕ → ℕ → List ℕ → List ℕ → List ℕ
 placed limit n l out = cond (ltb n limit) (sets out n l) out
-
-abbrev pub replaced : Pass → Told → Pass
-replaced p x = record { met = true; setter = x.setter; stamp = x.stamp; above = x.above; follows = p.follows; before = p.before; found = p.found }
-
-abbrev pub followed : Pass → Told → ℕ → Pass
-followed p x found = record { met = true; setter = x.setter; stamp = x.stamp; above = x.above; follows = p.met; before = p.above; found = found }
 
 -- ---- how the pass stands
 -- the last of neighbours by one transaction, as `last_of_each` has them
@@ -54,33 +58,22 @@ lasts [] = []
 lasts (x ∷ []) = x ∷ []
 lasts (x ∷ y ∷ l) = cond (eqb x.setter y.setter) (lasts (y ∷ l)) (x ∷ lasts (y ∷ l))
 
--- the crossings of a list that follows a value of side b, or none
-abbrev pub behind : ℕ → Bool → Bool → List Told → List ℕ
-behind from follows b [] = []
-behind from follows b (x ∷ l) =
-    cond (follows && (differ b x.above && leb from x.stamp)) (x.stamp ∷ []) [] ++ behind from true x.above l
-
--- the last value, if one was met
-abbrev pub standing : Pass → List Told
-standing p = cond p.met (record { setter = p.setter; stamp = p.stamp; above = p.above } ∷ []) []
-
 -- After the values l, with the slice `out` at first and `out'` now: `listed` are the crossings found, and whatever values come, the crossings of all are these and those that
 -- follow from where the pass stands.
-pub record Stands (q : Query) (limit : ℕ) (l : List Dated) (out : List ℕ) (p : Pass) (out' : List ℕ) : Type 0 where
+pub record Stands (from limit : ℕ) (l : List Told) (out : List ℕ) (p : Pass) (out' : List ℕ) : Type 0 where
   pub listed : List ℕ
   pub found_is : p.found ≡ length listed
   pub written : out' ≡ sets out 0 (take limit listed)
-  pub fresh : p.met ≡ false → p.follows ≡ false
-  pub further : (more : List Told)
-      → behind q.from.0 false false (lasts (map (told q.mark) l ++ more)) ≡ listed ++ behind q.from.0 p.follows p.before (lasts (standing p ++ more))
+  pub fresh : p.last ≡ None → p.before ≡ None
+  pub further : (more : List Told) → behind from None (lasts (l ++ more)) ≡ listed ++ behind from p.before (lasts (standing p ++ more))
 
--- what the record at slot k tells: one value or none
-unfoldable pub told_at : Shape → View → Reader → ℕ → ℕ → ℕ → List Dated
-told_at S v who r c k = cond (tells v who r c (record_in v k)) (dated_in S v r c k ∷ []) []
+-- a turn of the pass over one value more
+unfoldable pub Continues : (from limit : ℕ) → Told → Pass → List ℕ → Pass → List ℕ → Type 0
+Continues from limit x p old p' old' = (l : List Told) (out : List ℕ) → Stands from limit l out p old → Stands from limit (l ++ x ∷ []) out p' old'
 
--- a turn of the pass over some values more
-unfoldable pub Continues : Query → ℕ → List Dated → Pass → List ℕ → Pass → List ℕ → Type 0
-Continues q limit new p old p' old' = (l : List Dated) (out : List ℕ) → Stands q limit l out p old → Stands q limit (l ++ new) out p' old'
+-- what the record at slot k tells, if it tells a value
+unfoldable pub told_at : Shape → View → Reader → Query → ℕ → Option Told
+told_at S v who q k = cond (tells v who q.row.0 q.column (record_in v k)) (Some (told q.mark (dated_in S v q.row.0 q.column k))) None
 
 -- of row r the records from number i up to j tell nothing, to whatever reader and of whatever column
 unfoldable pub NoneTold : Shape → View → (r i j : ℕ) → Type 0
